@@ -1,11 +1,12 @@
 // The parts of a text, and its numbers. Every public call is total.
-ghost use Rattle.std.specs.Prelude.{◌≡◌, ◌+◌, ◌≤◌, [], length, drop, slice_index, slice_index_or};
+ghost use Rattle.std.specs.Prelude.{◌≡◌, ◌+◌, ◌≤◌, [], IfOk, length, drop, slice_index, slice_index_or};
 ghost use Rattle.cases.specs.Text.{cut_at, numbers_in};
 ghost use Rattle.cases.specs.Private.{separator_at};
 
 use crate::lists::first_8;
 use decimal::reading::number_at;
-use libc::STDIN_FILENO;
+use std::io;
+use std::io::Read;
 
 // What stands between the numbers of a text.
 pub const BLANK: u8 = b' ';
@@ -71,8 +72,23 @@ pub fn number(text: &[u8], n: usize) -> u64
     digits.value
 }
 
+// Reads until `room` is full or the input ends; returns how many octets were read.
+fn fill(from: &mut impl Read, room: &mut [u8]) -> io::Result<usize>
+    ensures { IfOk result (λ n. n ≤ length room.new) }
+{
+    let mut n = 0;
+    while n < room.len() {
+        let more = from.read(&mut room[n..])?;
+        if more == 0 {
+            return Ok(n);
+        }
+        n += more;
+    }
+    Ok(n)
+}
+
 // Reads standard input into `room`; returns the octets read. What does not fit is not read.
-pub fn input(room: &mut [u8]) -> &[u8] {
-    let n = io::read_full(STDIN_FILENO, room);
-    first_8(room, n)
+pub fn input<'a>(rt: &impl Input, room: &'a mut [u8]) -> io::Result<&'a [u8]> {
+    let n = fill(&mut rt.reader(), room)?;
+    Ok(first_8(room, n))
 }

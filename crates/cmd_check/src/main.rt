@@ -12,9 +12,13 @@ ghost use Rattle.checker.specs.Verdict.{sample_verdict};
 
 use checker::{SampleVerdict, Verdict};
 use listing::LISTING_OCTETS;
-use program::{SAMPLE_ROOM, open_argument, read, write_number, write_refusal, write_word};
+use program::{
+    SAMPLE_ROOM, argument_count, open_argument, read, write_number, write_refusal, write_word,
+};
 use rfc4737::refusal::NONE;
 use shown::write_line;
+use std::io;
+use std::io::Read;
 use text_lines::line_of;
 
 // One octet more than the longest report.
@@ -29,63 +33,60 @@ fn check_start(file: &[u8], start: &[u8]) -> SampleVerdict
 }
 
 // Writes line n of the sample's report. Lines count from 0.
-fn write_right_line(file: &[u8], n: usize) {
+fn write_right_line(rt: &impl Print, file: &[u8], n: usize) -> io::Result<()> {
     let mut out = [0u8; LISTING_OCTETS];
     let length = metrics::listing(file, &mut out).length as usize;
     if length <= out.len() {
-        write_line(b"the sample gives: ", line_of(&out[0..length], n));
+        write_line(rt, b"the sample gives: ", line_of(&out[0..length], n))?;
     }
+    Ok(())
 }
 
 // Writes that line n is wrong, that line and the right one. Lines count from 1.
-fn write_wrong_line(file: &[u8], start: &[u8], n: u32) {
-    write_word(b"line ");
-    write_number(n as u64);
-    write_word(b" is wrong\n");
+fn write_wrong_line(rt: &impl Print, file: &[u8], start: &[u8], n: u32) -> io::Result<()> {
+    write_word(rt, b"line ")?;
+    write_number(rt, n as u64)?;
+    write_word(rt, b" is wrong\n")?;
     if 0 < n {
-        write_line(b"the listing has: ", line_of(start, n as usize - 1));
-        write_right_line(file, n as usize - 1);
+        write_line(rt, b"the listing has: ", line_of(start, n as usize - 1))?;
+        write_right_line(rt, file, n as usize - 1)?;
     }
+    Ok(())
 }
 
 // Checks the start of a listing against a sample, and writes the verdict.
-fn write_verdict(file: &[u8], start: &[u8]) {
+fn write_verdict(rt: &impl Print, file: &[u8], start: &[u8]) -> io::Result<()> {
     let checked = check_start(file, start);
     if checked.refusal != NONE {
-        write_refusal(checked.refusal);
-        return;
+        return write_refusal(rt, checked.refusal);
     }
     let verdict = checked.verdict;
     match verdict {
-        Verdict::Agrees => {
-            write_word(b"the listing is right\n");
-        }
-        Verdict::WrongLine(n) => write_wrong_line(file, start, n),
+        Verdict::Agrees => write_word(rt, b"the listing is right\n"),
+        Verdict::WrongLine(n) => write_wrong_line(rt, file, start, n),
     }
 }
 
 // Reads two open files, the first as a sample and the second as a listing, and checks.
-fn check_files(sample: i32, listing: i32) {
+fn check_files(rt: &impl Print, sample: &mut impl Read, listing: &mut impl Read) -> io::Result<()> {
     let mut file = [0u8; SAMPLE_ROOM];
     let mut start = [0u8; LISTING_ROOM];
-    write_verdict(read(sample, &mut file), read(listing, &mut start));
+    write_verdict(rt, read(sample, &mut file)?, read(listing, &mut start)?)
 }
 
 // Takes the arguments, and checks.
-fn main() {
-    if os::arg_count() != 3 {
-        write_word(b"the arguments are the names of a sample file and of a listing\n");
-        return;
+fn main(rt: HostRuntime) -> io::Result<()> {
+    if argument_count(&rt) != 3 {
+        return write_word(
+            &rt,
+            b"the arguments are the names of a sample file and of a listing\n",
+        );
     }
-    let sample = open_argument(1);
-    if sample < 0 {
-        write_word(b"the sample can't be opened\n");
-        return;
-    }
-    let listing = open_argument(2);
-    if listing < 0 {
-        write_word(b"the listing can't be opened\n");
-        return;
-    }
-    check_files(sample, listing);
+    let Some(mut sample) = open_argument(&rt, 1) else {
+        return write_word(&rt, b"the sample can't be opened\n");
+    };
+    let Some(mut listing) = open_argument(&rt, 2) else {
+        return write_word(&rt, b"the listing can't be opened\n");
+    };
+    check_files(&rt, &mut sample, &mut listing)
 }

@@ -8,6 +8,7 @@ mod log;
 use log::put_log;
 use program::{SAMPLE_ROOM, argument_is, read_input, write_first, write_refusal, write_word};
 use sample::WriteAnswer;
+use std::io;
 
 // Room for any output: 4,096 lines of at most 46 octets, or records of 25.
 const OUTPUT_OCTETS: usize = 188_416;
@@ -28,31 +29,28 @@ fn put_arrivals(kind: Kind, file: &[u8], out: &mut [u8]) -> WriteAnswer {
 }
 
 // Writes a sample's arrivals, or its refusal.
-fn write_arrivals(kind: Kind, file: &[u8]) {
+fn write_arrivals(rt: &impl Print, kind: Kind, file: &[u8]) -> io::Result<()> {
     let mut out = [0u8; OUTPUT_OCTETS];
     let written = put_arrivals(kind, file, &mut out);
     if written.refusal != 0 {
-        write_refusal(written.refusal);
-        return;
+        return write_refusal(rt, written.refusal);
     }
-    write_first(&out, written.length as usize);
+    write_first(rt, &out, written.length as usize)
 }
 
 // Reads the whole input and writes its arrivals.
-fn export(kind: Kind) {
+fn export(rt: &(impl Input + Print), kind: Kind) -> io::Result<()> {
     let mut input = [0u8; SAMPLE_ROOM];
-    write_arrivals(kind, read_input(&mut input));
+    write_arrivals(rt, kind, read_input(rt, &mut input)?)
 }
 
 // Exports in the form that the argument names.
-fn main() {
-    if argument_is(1, b"log") {
-        export(Kind::Log);
-        return;
+fn main(rt: HostRuntime) -> io::Result<()> {
+    if argument_is(&rt, 1, b"log") {
+        return export(&rt, Kind::Log);
     }
-    if argument_is(1, b"owamp") {
-        export(Kind::Records);
-        return;
+    if argument_is(&rt, 1, b"owamp") {
+        return export(&rt, Kind::Records);
     }
-    write_word(b"the argument is log or owamp\n");
+    write_word(&rt, b"the argument is log or owamp\n")
 }

@@ -1,4 +1,7 @@
 // How the program ended, as a number and as a word.
+use std::fs::OpenOptions;
+use std::io::Write;
+use std::rt::Files;
 
 // It has not ended yet.
 pub(crate) const GOING: u32 = 0;
@@ -15,22 +18,32 @@ pub(crate) const UNWRITTEN: u32 = 3;
 // K is refused.
 pub(crate) const REFUSED: u32 = 4;
 
-// The descriptor on which the program says how it ended.
-const STATUS: i32 = 3;
+// What reads the output has gone away.
+pub(crate) const GONE: u32 = 5;
+
+// The name of descriptor 3, on which the program says how it ended.
+const STATUS: &str = "/dev/fd/3";
+
+// Writes a word on descriptor 3. Nothing is written where it is not open.
+fn say(rt: &impl Files, word: &[u8]) {
+    if let Ok(mut status) = OpenOptions::new().append(true).open(rt, STATUS) {
+        let _ = status.write_all(word);
+    }
+}
 
 // Says how the program ended. GOING means that all was read and written.
-pub(crate) fn say_end(end: u32) {
+pub(crate) fn say_end(rt: &impl Files, end: u32) {
     if end == UNREAD {
-        io::write_all(STATUS, b"unread");
-        return;
+        return say(rt, b"unread");
     }
     if end == UNWRITTEN {
-        io::write_all(STATUS, b"unwritten");
-        return;
+        return say(rt, b"unwritten");
+    }
+    if end == GONE {
+        return say(rt, b"gone");
     }
     if end == REFUSED {
-        io::write_all(STATUS, b"refused");
-        return;
+        return say(rt, b"refused");
     }
-    io::write_all(STATUS, b"done");
+    say(rt, b"done");
 }

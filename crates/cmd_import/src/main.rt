@@ -11,7 +11,11 @@ mod faults;
 use arguments::{Argument, argument_in};
 use convert::{Kind, convert};
 use faults::write_refusal;
-use program::{argument_is, read_input, write_first, write_word};
+use program::{
+    ARGUMENT_OCTETS, argument, argument_count, argument_is, read_input, write_first, write_word,
+};
+use std::io;
+use std::rt::Env;
 
 // The greatest length of the input: 4,096 lines of 64 octets, or some 10,000 records.
 const MAX_INPUT: usize = 262_144;
@@ -39,80 +43,81 @@ fn refused_line(kind: Kind, input: &[u8], k: u32) -> u32 {
 }
 
 // Writes the sample file of the input, or its refusal.
-fn write_sample(kind: Kind, input: &[u8], label: &[u8], k: u32, size: u16) {
+fn write_sample(
+    rt: &impl Print,
+    kind: Kind,
+    input: &[u8],
+    label: &[u8],
+    k: u32,
+    size: u16,
+) -> io::Result<()> {
     let mut out = [0u8; sample::LONGEST];
     let converted = convert(kind, input, label, k, size, &mut out);
     if converted.refusal != 0 {
         let line = refused_line(kind, input, k);
-        write_refusal(converted.refusal, input, line);
-        return;
+        return write_refusal(rt, converted.refusal, input, line);
     }
-    write_first(&out, converted.length as usize);
+    write_first(rt, &out, converted.length as usize)
 }
 
 // Takes the label, reads the whole input and writes its sample file.
-fn import(kind: Kind, k: u32, size: u16) {
-    let mut label = io::buffer();
-    let m = os::arg(LABEL_INDEX, &mut label);
+fn import(rt: &(impl Env + Input + Print), kind: Kind, k: u32, size: u16) -> io::Result<()> {
+    let mut word = [0u8; ARGUMENT_OCTETS];
+    let label = argument(rt, LABEL_INDEX, &mut word);
     let mut room = [0u8; INPUT_OCTETS];
-    let input = read_input(&mut room);
+    let input = read_input(rt, &mut room)?;
     if MAX_INPUT < input.len() {
-        write_word(b"the input has over 262144 octets\n");
-        return;
+        return write_word(rt, b"the input has over 262144 octets\n");
     }
-    write_sample(kind, input, &label[..m], k, size);
+    write_sample(rt, kind, input, label, k, size)
 }
 
 // Reads the argument at an index as a number.
-fn argument(index: usize) -> Argument {
+fn number_at(rt: &impl Env, index: usize) -> Argument {
     let mut word = [0u8; 32];
-    let n = os::arg(index, &mut word);
-    argument_in(&word[..n])
+    argument_in(argument(rt, index, &mut word))
 }
 
 // Says that the argument is no payload size.
-fn write_no_size() {
-    write_word(b"the payload size is no number from 0 to 65535\n");
+fn write_no_size(rt: &impl Print) -> io::Result<()> {
+    write_word(rt, b"the payload size is no number from 0 to 65535\n")
 }
 
 // Returns the kind of input that the argument at an index names; any other word means a text log.
-fn kind_at(index: usize) -> Kind {
-    if argument_is(index, b"records") {
+fn kind_at(rt: &impl Env, index: usize) -> Kind {
+    if argument_is(rt, index, b"records") {
         return Kind::Records;
     }
-    if argument_is(index, b"log8") {
+    if argument_is(rt, index, b"log8") {
         return Kind::Log8;
     }
-    if argument_is(index, b"log10") {
+    if argument_is(rt, index, b"log10") {
         return Kind::Log10;
     }
     Kind::Log
 }
 
 // Reads K and the payload size, and imports.
-fn import_kind(kind: Kind) {
-    let Argument::Given(k) = argument(K_INDEX) else {
-        write_word(b"K is no number from 0 to 4294967295\n");
-        return;
+fn import_kind(rt: &(impl Env + Input + Print), kind: Kind) -> io::Result<()> {
+    let Argument::Given(k) = number_at(rt, K_INDEX) else {
+        return write_word(rt, b"K is no number from 0 to 4294967295\n");
     };
-    let Argument::Given(size) = argument(SIZE_INDEX) else {
-        write_no_size();
-        return;
+    let Argument::Given(size) = number_at(rt, SIZE_INDEX) else {
+        return write_no_size(rt);
     };
     if 65_535 < size {
-        write_no_size();
-        return;
+        return write_no_size(rt);
     }
-    import(kind, k, size as u16);
+    import(rt, kind, k, size as u16)
 }
 
 // Checks the number of arguments, and imports.
-fn main() {
-    if os::arg_count() != 5 {
-        write_word(
+fn main(rt: HostRuntime) -> io::Result<()> {
+    if argument_count(&rt) != 5 {
+        return write_word(
+            &rt,
             b"the arguments are the word log, log8, log10 or records, the label, K and the payload size\n",
         );
-        return;
     }
-    import_kind(kind_at(KIND_INDEX));
+    import_kind(&rt, kind_at(&rt, KIND_INDEX))
 }

@@ -5,6 +5,7 @@ use crate::axes::{Unit, begin_name_below, write_frame, write_ticks_below, write_
 use crate::panel::{Panel, across, down, left_of, span_for};
 use crate::rows::extent_of;
 use crate::text::{write_number, write_shape, write_word};
+use std::io;
 use std::num::{wrapping_add_u64, wrapping_sub_u64};
 
 // The number of bins.
@@ -71,18 +72,19 @@ fn bars_of(rows: &[u64], arrivals: u32) -> Bars {
 }
 
 // Writes the name of a bin.
-fn write_bin(bin: u32) {
+fn write_bin(rt: &impl Print, bin: u32) -> io::Result<()> {
     let start = bin_start(bin);
     let end = bin_end(bin);
-    write_number(start);
+    write_number(rt, start)?;
     if start < end {
-        write_word(b"-");
-        write_number(end);
+        write_word(rt, b"-")?;
+        write_number(rt, end)?;
     }
+    Ok(())
 }
 
 // Writes the bar of a bin and its name. The first bin is at the top.
-fn write_bar(bin: u32, bins: u32, count: u64, span: u64) {
+fn write_bar(rt: &impl Print, bin: u32, bins: u32, count: u64, span: u64) -> io::Result<()> {
     let panel = Panel::Extents;
     let span_down = 10 * (bins as u64);
     let from_end = wrapping_sub_u64(span_down, 10 * (bin as u64));
@@ -90,40 +92,49 @@ fn write_bar(bin: u32, bins: u32, count: u64, span: u64) {
     let end = down(panel, wrapping_sub_u64(from_end, 8), span_down);
     let middle = down(panel, wrapping_sub_u64(from_end, 5), span_down);
     write_shape(
+        rt,
         b"<text class='e' x='A' y='B'>",
         left_of(panel) - 70,
         middle + 45,
         0,
         0,
-    );
-    write_bin(bin);
-    write_word(b"</text>");
+    )?;
+    write_bin(rt, bin)?;
+    write_word(rt, b"</text>")?;
     write_shape(
+        rt,
         b"<path class='b' d='MA BHCVD",
         left_of(panel),
         top,
         across(panel, count, span),
         end,
-    );
-    write_shape(b"HAz'/>\n", left_of(panel), 0, 0, 0);
+    )?;
+    write_shape(rt, b"HAz'/>\n", left_of(panel), 0, 0, 0)
 }
 
 // Writes the bars of all bins.
-fn write_rows(rows: &[u64], arrivals: u32, bars: Bars, span: u64) {
+fn write_rows(
+    rt: &impl Print,
+    rows: &[u64],
+    arrivals: u32,
+    bars: Bars,
+    span: u64,
+) -> io::Result<()> {
     for bin in 0..bars.bins {
-        write_bar(bin, bars.bins, count_in(rows, arrivals, bin), span);
+        write_bar(rt, bin, bars.bins, count_in(rows, arrivals, bin), span)?;
     }
+    Ok(())
 }
 
 // Writes the panel of the extents.
-pub(crate) fn write_bars(rows: &[u64], arrivals: u32) {
+pub(crate) fn write_bars(rt: &impl Print, rows: &[u64], arrivals: u32) -> io::Result<()> {
     let panel = Panel::Extents;
     let bars = bars_of(rows, arrivals);
     let span = span_for(bars.greatest, 10);
-    write_ticks_below(panel, span, span, Unit::Things);
-    write_rows(rows, arrivals, bars, span);
-    write_frame(panel);
-    write_title(panel, b"late packets by extent, in packets");
-    begin_name_below(panel);
-    write_word(b"late packets</text>\n");
+    write_ticks_below(rt, panel, span, span, Unit::Things)?;
+    write_rows(rt, rows, arrivals, bars, span)?;
+    write_frame(rt, panel)?;
+    write_title(rt, panel, b"late packets by extent, in packets")?;
+    begin_name_below(rt, panel)?;
+    write_word(rt, b"late packets</text>\n")
 }

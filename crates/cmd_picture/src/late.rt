@@ -11,6 +11,7 @@ use crate::rows::{LATE, ORDERED, amount_of, is_before, is_kind};
 use crate::settings::Settings;
 use crate::text::{write_milliseconds, write_shape, write_word};
 use sample::{Layout, arrival};
+use std::io;
 use std::num::wrapping_sub_u64;
 
 // The axes of the panel: the earliest arrival time, the span of all arrival times, and the late times.
@@ -124,6 +125,7 @@ fn level_of(panel: Panel, levels: Levels, rows: &[u64], i: u32) -> u64 {
 
 // Writes a shape for each record of a kind, at its time and its late time. The shape also gets the level of 0.
 fn write_marks(
+    rt: &impl Print,
     panel: Panel,
     axes: Axes,
     file: &[u8],
@@ -131,7 +133,7 @@ fn write_marks(
     rows: &[u64],
     kind: u32,
     shape: &[u8],
-)
+) -> io::Result<()>
     requires { length shape.now ≤ 64 }
 {
     let levels = axes.levels;
@@ -140,20 +142,28 @@ fn write_marks(
         if is_kind(rows, i, kind) {
             let time = wrapping_sub_u64(time_of(file, layout, i), axes.earliest);
             let x = across(panel, time, axes.span);
-            write_shape(shape, x, level_of(panel, levels, rows, i), zero, 0);
+            write_shape(rt, shape, x, level_of(panel, levels, rows, i), zero, 0)?;
         }
     }
+    Ok(())
 }
 
 // Writes the marks of all packets; those in order come last.
-fn write_layers(panel: Panel, axes: Axes, file: &[u8], layout: Layout, rows: &[u64]) {
-    write_word(b"<path class='s' d='");
-    write_marks(panel, axes, file, layout, rows, LATE, b"MA CVB");
-    write_word(b"'/>\n<path class='l' d='");
-    write_marks(panel, axes, file, layout, rows, LATE, b"MA Bh0");
-    write_word(b"'/>\n<path class='i' d='");
-    write_marks(panel, axes, file, layout, rows, ORDERED, b"MA Bh0");
-    write_word(b"'/>\n");
+fn write_layers(
+    rt: &impl Print,
+    panel: Panel,
+    axes: Axes,
+    file: &[u8],
+    layout: Layout,
+    rows: &[u64],
+) -> io::Result<()> {
+    write_word(rt, b"<path class='s' d='")?;
+    write_marks(rt, panel, axes, file, layout, rows, LATE, b"MA CVB")?;
+    write_word(rt, b"'/>\n<path class='l' d='")?;
+    write_marks(rt, panel, axes, file, layout, rows, LATE, b"MA Bh0")?;
+    write_word(rt, b"'/>\n<path class='i' d='")?;
+    write_marks(rt, panel, axes, file, layout, rows, ORDERED, b"MA Bh0")?;
+    write_word(rt, b"'/>\n")
 }
 
 // Returns how far from the upper edge a waiting time stands.
@@ -164,82 +174,107 @@ fn level_of_time(panel: Panel, levels: Levels, time: u64) -> u64
 }
 
 // Writes the line of a waiting time; nothing for 0.
-fn write_level(panel: Panel, levels: Levels, time: u64, line: &[u8])
+fn write_level(
+    rt: &impl Print,
+    panel: Panel,
+    levels: Levels,
+    time: u64,
+    line: &[u8],
+) -> io::Result<()>
     requires { length line.now ≤ 64 }
 {
     if time != 0 {
         let y = level_of_time(panel, levels, time);
-        write_shape(line, left_of(panel), y, right(panel), 0);
+        write_shape(rt, line, left_of(panel), y, right(panel), 0)?;
     }
+    Ok(())
 }
 
 // Writes the name and the time of the line of a waiting time.
-fn write_level_name(panel: Panel, levels: Levels, time: u64, name: &[u8], x: u64)
+fn write_level_name(
+    rt: &impl Print,
+    panel: Panel,
+    levels: Levels,
+    time: u64,
+    name: &[u8],
+    x: u64,
+) -> io::Result<()>
     requires { length name.now ≤ 64 }
 {
     if time != 0 {
         let y = level_of_time(panel, levels, time);
-        write_shape(name, x, y - 50, 0, 0);
-        write_milliseconds(time);
-        write_word(b"</text>\n");
+        write_shape(rt, name, x, y - 50, 0, 0)?;
+        write_milliseconds(rt, time)?;
+        write_word(rt, b"</text>\n")?;
     }
+    Ok(())
 }
 
 // Writes the lines of the waiting times for 95 percent and for all, with their names above.
-fn write_settings(panel: Panel, levels: Levels, most: u64, all: u64) {
-    write_level(panel, levels, most, b"<path class='n' d='MA BHC'/>");
-    write_level(panel, levels, all, b"<path class='t' d='MA BHC'/>");
+fn write_settings(
+    rt: &impl Print,
+    panel: Panel,
+    levels: Levels,
+    most: u64,
+    all: u64,
+) -> io::Result<()> {
+    write_level(rt, panel, levels, most, b"<path class='n' d='MA BHC'/>")?;
+    write_level(rt, panel, levels, all, b"<path class='t' d='MA BHC'/>")?;
     write_level_name(
+        rt,
         panel,
         levels,
         most,
         b"<text class='h' x='A' y='B'>95 in 100: ",
         left_of(panel) + 60,
-    );
+    )?;
     write_level_name(
+        rt,
         panel,
         levels,
         all,
         b"<text class='h e' x='A' y='B'>all: ",
         right(panel),
-    );
+    )
 }
 
 // Writes the names of both axes.
-fn write_names(panel: Panel, axes: Axes) {
-    begin_name_below(panel);
-    write_word(b"arrival time, ");
-    write_unit(unit_for(axes.span));
-    write_word(b" after the earliest</text>\n");
-    begin_name_beside(panel);
-    write_word(b"late time, ");
-    write_unit(unit_for(span_of(axes.levels)));
-    write_word(b"</text>\n");
+fn write_names(rt: &impl Print, panel: Panel, axes: Axes) -> io::Result<()> {
+    begin_name_below(rt, panel)?;
+    write_word(rt, b"arrival time, ")?;
+    write_unit(rt, unit_for(axes.span))?;
+    write_word(rt, b" after the earliest</text>\n")?;
+    begin_name_beside(rt, panel)?;
+    write_word(rt, b"late time, ")?;
+    write_unit(rt, unit_for(span_of(axes.levels)))?;
+    write_word(rt, b"</text>\n")
 }
 
 // Writes the legend above the panel.
-fn write_legend() {
+fn write_legend(rt: &impl Print) -> io::Result<()> {
     write_word(
+        rt,
         b"<path class='i' d='M84 170h0'/><text x='94' y='174'>in order</text>\
         <path class='l' d='M164 170h0'/><text x='174' y='174'>late, at the late time</text>\n",
-    );
+    )
 }
 
 // Writes the panel of late times.
 pub(crate) fn write_late_times(
+    rt: &impl Print,
     panel: Panel,
     file: &[u8],
     layout: Layout,
     rows: &[u64],
     settings: Settings,
-) {
+) -> io::Result<()> {
     let axes = axes_of(file, layout, rows, settings.all.time);
     let levels = axes.levels;
-    write_ticks_below(panel, axes.span, axes.span, unit_for(axes.span));
-    write_ticks_beside(panel, levels, unit_for(span_of(levels)));
-    write_layers(panel, axes, file, layout, rows);
-    write_frame(panel);
-    write_settings(panel, levels, settings.most.time, settings.all.time);
-    write_names(panel, axes);
-    write_legend();
+    write_ticks_below(rt, panel, axes.span, axes.span, unit_for(axes.span))?;
+    write_ticks_beside(rt, panel, levels, unit_for(span_of(levels)))?;
+    write_layers(rt, panel, axes, file, layout, rows)?;
+    write_frame(rt, panel)?;
+    write_settings(rt, panel, levels, settings.most.time, settings.all.time)?;
+    write_names(rt, panel, axes)?;
+    write_legend(rt)
 }

@@ -24,6 +24,7 @@ use rfc4737::refusal::NONE;
 use sample::Layout;
 use settings::{Settings, settings_of};
 use stairs::write_stairs;
+use std::io;
 
 // The length of the rows of the longest sample: 8 numbers for each record.
 const ROWS_LEN: usize = 8 * (ARRIVALS_MOST as usize);
@@ -32,46 +33,50 @@ const ROWS_LEN: usize = 8 * (ARRIVALS_MOST as usize);
 const MAX_NUMBERED: u32 = 300;
 
 // Draws the left side: late times, and below them sequence numbers if there are not too many.
-fn draw_left(file: &[u8], layout: Layout, rows: &[u64], settings: Settings) {
+fn draw_left(
+    rt: &impl Print,
+    file: &[u8],
+    layout: Layout,
+    rows: &[u64],
+    settings: Settings,
+) -> io::Result<()> {
     if MAX_NUMBERED < layout.arrivals {
-        write_late_times(Panel::TallLateTimes, file, layout, rows, settings);
-        return;
+        return write_late_times(rt, Panel::TallLateTimes, file, layout, rows, settings);
     }
-    write_late_times(Panel::LateTimes, file, layout, rows, settings);
-    write_numbers(file, layout, rows);
+    write_late_times(rt, Panel::LateTimes, file, layout, rows, settings)?;
+    write_numbers(rt, file, layout, rows)
 }
 
 // Draws the panels of a sample from the rows of its records.
-fn draw_panels(file: &[u8], settings: Settings) {
+fn draw_panels(rt: &impl Print, file: &[u8], settings: Settings) -> io::Result<()> {
     let mut rows = [0u64; ROWS_LEN];
     let layout = record_rows(file, &mut rows);
-    draw_left(file, layout, &rows, settings);
-    write_stairs(file, settings);
-    bars::write_bars(&rows, layout.arrivals);
+    draw_left(rt, file, layout, &rows, settings)?;
+    write_stairs(rt, file, settings)?;
+    bars::write_bars(rt, &rows, layout.arrivals)
 }
 
 // Draws an accepted sample.
-fn draw(file: &[u8], layout: Layout) {
+fn draw(rt: &impl Print, file: &[u8], layout: Layout) -> io::Result<()> {
     let settings = settings_of(file);
-    write_head(file, layout, settings);
-    draw_panels(file, settings);
-    write_word(b"</svg>\n");
+    write_head(rt, file, layout, settings)?;
+    draw_panels(rt, file, settings)?;
+    write_word(rt, b"</svg>\n")
 }
 
 // Draws a sample, or prints the line of a refused input.
-fn draw_input(file: &[u8]) {
+fn draw_input(rt: &impl Print, file: &[u8]) -> io::Result<()> {
     let layout = sample::check(file);
     if layout.refusal != NONE {
-        write_word(b"refused ");
-        write_number(layout.refusal as u64);
-        write_word(b"\n");
-        return;
+        write_word(rt, b"refused ")?;
+        write_number(rt, layout.refusal as u64)?;
+        return write_word(rt, b"\n");
     }
-    draw(file, layout);
+    draw(rt, file, layout)
 }
 
 // Reads the whole input and draws it.
-fn main() {
+fn main(rt: HostRuntime) -> io::Result<()> {
     let mut input = [0u8; SAMPLE_ROOM];
-    draw_input(read_input(&mut input));
+    draw_input(&rt, read_input(&rt, &mut input)?)
 }

@@ -11,6 +11,7 @@ use crate::settings::Settings;
 use crate::text::{write_shape, write_word};
 use metrics::accommodated;
 use rfc4737::Measure;
+use std::io;
 
 // The number of sizes of a stair after 0: one for each second pixel.
 const COLUMNS: u64 = 165;
@@ -59,15 +60,30 @@ fn size_at(column: u64, span: u64) -> u64
 }
 
 // Writes a step at a column, up to a share.
-fn write_step(panel: Panel, column: u64, part: u32, whole: u32, low: u32)
+fn write_step(
+    rt: &impl Print,
+    panel: Panel,
+    column: u64,
+    part: u32,
+    whole: u32,
+    low: u32,
+) -> io::Result<()>
     requires { low ≤ 90 }
 {
     let y = level_of(panel, part, whole, low);
-    write_shape(b"HAVB", across(panel, column, COLUMNS), y, 0, 0);
+    write_shape(rt, b"HAVB", across(panel, column, COLUMNS), y, 0, 0)
 }
 
 // Writes the steps of a stair: one at each column where the number of accommodated packets changes. `start` is that number for size 0.
-fn write_steps(panel: Panel, file: &[u8], measure: Measure, span: u64, low: u32, start: u32)
+fn write_steps(
+    rt: &impl Print,
+    panel: Panel,
+    file: &[u8],
+    measure: Measure,
+    span: u64,
+    low: u32,
+    start: u32,
+) -> io::Result<()>
     requires { low ≤ 90 }
 {
     let mut last = start;
@@ -75,40 +91,50 @@ fn write_steps(panel: Panel, file: &[u8], measure: Measure, span: u64, low: u32,
         let share = accommodated(file, measure, size_at(column, span));
         if share.accommodated != last {
             last = share.accommodated;
-            write_step(panel, column, last, share.arrived, low);
+            write_step(rt, panel, column, last, share.arrived, low)?;
         }
     }
+    Ok(())
 }
 
 // Writes a stair.
-fn write_stair(panel: Panel, file: &[u8], measure: Measure, span: u64, low: u32)
+fn write_stair(
+    rt: &impl Print,
+    panel: Panel,
+    file: &[u8],
+    measure: Measure,
+    span: u64,
+    low: u32,
+) -> io::Result<()>
     requires { low ≤ 90 }
 {
     let start = accommodated(file, measure, 0);
     let y = level_of(panel, start.accommodated, start.arrived, low);
-    write_shape(b"<path class='w' d='MA B", left_of(panel), y, 0, 0);
-    write_steps(panel, file, measure, span, low, start.accommodated);
-    write_shape(b"HA'/>\n", right(panel), 0, 0, 0);
+    write_shape(rt, b"<path class='w' d='MA B", left_of(panel), y, 0, 0)?;
+    write_steps(rt, panel, file, measure, span, low, start.accommodated)?;
+    write_shape(rt, b"HA'/>\n", right(panel), 0, 0, 0)
 }
 
 // Writes the line of a setting; nothing for 0.
-fn write_size(panel: Panel, size: u64, span: u64, line: &[u8])
+fn write_size(rt: &impl Print, panel: Panel, size: u64, span: u64, line: &[u8]) -> io::Result<()>
     requires { length line.now ≤ 64 }
 {
     if size == 0 {
-        return;
+        return Ok(());
     }
     write_shape(
+        rt,
         line,
         across(panel, size, span),
         top_of(panel),
         bottom(panel),
         0,
-    );
+    )
 }
 
 // Writes a panel with a stair. `most` and `all` are the settings for 95 percent and for all.
 fn write_panel(
+    rt: &impl Print,
     panel: Panel,
     file: &[u8],
     measure: Measure,
@@ -116,7 +142,7 @@ fn write_panel(
     span: u64,
     most: u64,
     all: u64,
-) {
+) -> io::Result<()> {
     let start = accommodated(file, measure, 0);
     let low = low_for(start.accommodated, start.arrived);
     let levels = Levels {
@@ -124,41 +150,50 @@ fn write_panel(
         below: 0,
         above: (100 - low) as u64,
     };
-    write_ticks_below(panel, span, span, unit);
-    write_ticks_beside(panel, levels, Unit::Things);
-    write_size(panel, most, span, b"<path class='n' d='MA BVC'/>");
-    write_size(panel, all, span, b"<path class='t' d='MA BVC'/>");
+    write_ticks_below(rt, panel, span, span, unit)?;
+    write_ticks_beside(rt, panel, levels, Unit::Things)?;
+    write_size(rt, panel, most, span, b"<path class='n' d='MA BVC'/>")?;
+    write_size(rt, panel, all, span, b"<path class='t' d='MA BVC'/>")?;
     if start.arrived != 0 {
-        write_stair(panel, file, measure, span, low);
+        write_stair(rt, panel, file, measure, span, low)?;
     }
-    write_frame(panel);
+    write_frame(rt, panel)
 }
 
 // Writes the panel by waiting time.
-fn write_by_time(file: &[u8], most: u64, all: u64) {
+fn write_by_time(rt: &impl Print, file: &[u8], most: u64, all: u64) -> io::Result<()> {
     let panel = Panel::WaitingTime;
     let span = span_for(all, 1000);
     let unit = unit_for(span);
-    write_panel(panel, file, Measure::Time, unit, span, most, all);
-    write_title(panel, b"packets in order, %, by waiting time");
-    begin_name_below(panel);
-    write_word(b"waiting time, ");
-    write_unit(unit);
-    write_word(b"</text>\n");
+    write_panel(rt, panel, file, Measure::Time, unit, span, most, all)?;
+    write_title(rt, panel, b"packets in order, %, by waiting time")?;
+    begin_name_below(rt, panel)?;
+    write_word(rt, b"waiting time, ")?;
+    write_unit(rt, unit)?;
+    write_word(rt, b"</text>\n")
 }
 
 // Writes the panel by buffer.
-fn write_by_buffer(file: &[u8], most: u64, all: u64) {
+fn write_by_buffer(rt: &impl Print, file: &[u8], most: u64, all: u64) -> io::Result<()> {
     let panel = Panel::Buffer;
     let span = span_for(all, 10);
-    write_panel(panel, file, Measure::Packets, Unit::Things, span, most, all);
-    write_title(panel, b"packets in order, %, by buffer");
-    begin_name_below(panel);
-    write_word(b"buffer, packets</text>\n");
+    write_panel(
+        rt,
+        panel,
+        file,
+        Measure::Packets,
+        Unit::Things,
+        span,
+        most,
+        all,
+    )?;
+    write_title(rt, panel, b"packets in order, %, by buffer")?;
+    begin_name_below(rt, panel)?;
+    write_word(rt, b"buffer, packets</text>\n")
 }
 
 // Writes both panels.
-pub(crate) fn write_stairs(file: &[u8], settings: Settings) {
-    write_by_time(file, settings.most.time, settings.all.time);
-    write_by_buffer(file, settings.most.packets, settings.all.packets);
+pub(crate) fn write_stairs(rt: &impl Print, file: &[u8], settings: Settings) -> io::Result<()> {
+    write_by_time(rt, file, settings.most.time, settings.all.time)?;
+    write_by_buffer(rt, file, settings.most.packets, settings.all.packets)
 }

@@ -1,56 +1,55 @@
 // Writes words, numbers, and shapes with lengths filled in. A length is a whole number of tenths of a pixel.
 ghost use Rattle.std.specs.Prelude.{◌+◌, ◌≤◌, length};
 
-use libc::STDOUT_FILENO;
+use std::io;
 
 // Writes a word.
-pub(crate) fn write_word(word: &[u8]) {
-    io::write_all(STDOUT_FILENO, word);
+pub(crate) fn write_word(rt: &impl Print, word: &[u8]) -> io::Result<()> {
+    rt.write_all(word)
 }
 
 // Writes the first `n` octets.
-fn write_first(text: &[u8], n: usize)
+fn write_first(rt: &impl Print, text: &[u8], n: usize) -> io::Result<()>
     requires { n ≤ length text.now }
 {
-    io::write_all(STDOUT_FILENO, &text[0..n]);
+    rt.write_all(&text[0..n])
 }
 
 // Writes a number.
-pub(crate) fn write_number(n: u64) {
-    io::print_decimal(STDOUT_FILENO, n);
+pub(crate) fn write_number(rt: &impl Print, n: u64) -> io::Result<()> {
+    rt.print(n)
 }
 
 // Writes a number, then the word `one` for 1 or `more` for any other number.
-pub(crate) fn write_counted(n: u32, one: &[u8], more: &[u8]) {
-    write_number(n as u64);
+pub(crate) fn write_counted(rt: &impl Print, n: u32, one: &[u8], more: &[u8]) -> io::Result<()> {
+    write_number(rt, n as u64)?;
     if n == 1 {
-        write_word(one);
+        write_word(rt, one)
     } else {
-        write_word(more);
+        write_word(rt, more)
     }
 }
 
 // Writes a time, given in microseconds, in milliseconds with three decimals.
-pub(crate) fn write_milliseconds(time: u64) {
-    write_number(time / 1000);
-    write_word(b".");
-    write_number(time / 100 % 10);
-    write_number(time / 10 % 10);
-    write_number(time % 10);
-    write_word(b" ms");
+pub(crate) fn write_milliseconds(rt: &impl Print, time: u64) -> io::Result<()> {
+    write_number(rt, time / 1000)?;
+    write_word(rt, b".")?;
+    write_number(rt, time / 100 % 10)?;
+    write_number(rt, time / 10 % 10)?;
+    write_number(rt, time % 10)?;
+    write_word(rt, b" ms")
 }
 
 // Writes `part` of `whole` in percent, to the nearest tenth; nothing if `whole` is 0.
-pub(crate) fn write_percent(part: u32, whole: u32) {
+pub(crate) fn write_percent(rt: &impl Print, part: u32, whole: u32) -> io::Result<()> {
     if whole == 0 {
-        write_word(b"- %");
-        return;
+        return write_word(rt, b"- %");
     }
     let tenths = (2000 * (part as u64) + whole as u64) / (2 * (whole as u64));
-    write_number(tenths / 10);
-    write_word(b".");
-    write_number(tenths % 10);
-    write_word(b" %");
+    write_number(rt, tenths / 10)?;
+    write_word(rt, b".")?;
+    write_number(rt, tenths % 10)?;
+    write_word(rt, b" %")
 }
 
 // Writes a word at an offset. Returns the offset after it.
@@ -102,7 +101,14 @@ fn put_part(out: &mut [u8], at: usize, octet: u8, a: u64, b: u64, c: u64, d: u64
 
 // Writes a shape: an element, or a part of one, in which the letters from A to D stand for lengths. No length has more than 20 digits and
 // one decimal, so the text has room for all of it.
-pub(crate) fn write_shape(shape: &[u8], a: u64, b: u64, c: u64, d: u64)
+pub(crate) fn write_shape(
+    rt: &impl Print,
+    shape: &[u8],
+    a: u64,
+    b: u64,
+    c: u64,
+    d: u64,
+) -> io::Result<()>
     requires { length shape.now ≤ 64 }
 {
     let mut text = [0u8; 3072];
@@ -110,5 +116,5 @@ pub(crate) fn write_shape(shape: &[u8], a: u64, b: u64, c: u64, d: u64)
     for i in 0..shape.len() {
         at = put_part(&mut text, at, shape[i], a, b, c, d);
     }
-    write_first(&text, at);
+    write_first(rt, &text, at)
 }

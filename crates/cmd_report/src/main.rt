@@ -11,6 +11,7 @@ ghost use Rattle.cmd_report.specs.Text.{report_text, PutWhole};
 use listing::LISTING_OCTETS;
 use program::{SAMPLE_ROOM, read_input, write_first};
 use rfc4737::refusal::NONE;
+use std::io;
 
 // Writes the line of a refused input to the start of `out` if it has room. Returns the number of octets written.
 fn refuse(refusal: u32, out: &mut [u8]) -> usize
@@ -37,9 +38,9 @@ fn report(input: &[u8], out: &mut [u8]) -> usize
 }
 
 // Reads the whole input and prints its text.
-fn main() {
+fn main(rt: HostRuntime) -> io::Result<()> {
     let mut input = [0u8; SAMPLE_ROOM];
     let mut out = [0u8; LISTING_OCTETS];
-    let length = report(read_input(&mut input), &mut out);
-    write_first(&out, length);
+    let length = report(read_input(&rt, &mut input)?, &mut out);
+    write_first(&rt, &out, length)
 }

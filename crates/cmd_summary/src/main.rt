@@ -11,6 +11,8 @@ ghost use Rattle.cmd_summary.specs.Shown.{form_text, shown_text};
 use program::{SAMPLE_ROOM, argument_is, read_input, write_first};
 use rfc4737::refusal::{NONE, OUTPUT_SHORT};
 use sample::WriteAnswer;
+use std::io;
+use std::rt::Env;
 use summary::ALL_OCTETS;
 
 // The form of the summary.
@@ -62,20 +64,20 @@ fn summarize(form: Form, input: &[u8], out: &mut [u8]) -> WriteAnswer
 }
 
 // Returns the form that the argument names; text for any other word.
-fn asked_form() -> Form {
-    if argument_is(1, b"json") {
+fn asked_form(rt: &impl Env) -> Form {
+    if argument_is(rt, 1, b"json") {
         return Form::Json;
     }
-    if argument_is(1, b"all") {
+    if argument_is(rt, 1, b"all") {
         return Form::All;
     }
     Form::Text
 }
 
 // Reads the argument and the whole input, and prints its text.
-fn main() {
+fn main(rt: HostRuntime) -> io::Result<()> {
     let mut input = [0u8; SAMPLE_ROOM];
     let mut out = [0u8; ALL_OCTETS];
-    let length = summarize(asked_form(), read_input(&mut input), &mut out).length as usize;
-    write_first(&out, length);
+    let length = summarize(asked_form(&rt), read_input(&rt, &mut input)?, &mut out).length as usize;
+    write_first(&rt, &out, length)
 }

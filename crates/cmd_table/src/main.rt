@@ -13,6 +13,7 @@ ghost use Rattle.cmd_table.specs.Shown.{Shown, ShownJoin};
 use program::{SAMPLE_ROOM, argument_is, read_input, write_first, write_word};
 use rfc4737::refusal::NONE;
 use sample::WriteAnswer;
+use std::io;
 use table::{PART_OCTETS, PARTS};
 
 // Writes a part of the table of a sample to the start of `out`.
@@ -51,36 +52,35 @@ fn put_part(json: bool, input: &[u8], part: u32, out: &mut [u8]) -> usize
 }
 
 // Prints a part of the text of an input.
-fn print_part(json: bool, input: &[u8], part: u32) {
+fn print_part(rt: &impl Print, json: bool, input: &[u8], part: u32) -> io::Result<()> {
     let mut out = [0u8; PART_OCTETS];
     let n = put_part(json, input, part, &mut out);
-    write_first(&out, n);
+    write_first(rt, &out, n)
 }
 
 // Prints all parts of the text of an input.
-fn print_parts(json: bool, input: &[u8]) {
+fn print_parts(rt: &impl Print, json: bool, input: &[u8]) -> io::Result<()> {
     let mut part: u32 = 0;
     while part < PARTS {
-        print_part(json, input, part);
+        print_part(rt, json, input, part)?;
         part += 1;
     }
+    Ok(())
 }
 
 // Reads the whole input and prints its text.
-fn print_table(json: bool) {
+fn print_table(rt: &(impl Input + Print), json: bool) -> io::Result<()> {
     let mut input = [0u8; SAMPLE_ROOM];
-    print_parts(json, read_input(&mut input));
+    print_parts(rt, json, read_input(rt, &mut input)?)
 }
 
 // Prints the table in the form that the argument names.
-fn main() {
-    if argument_is(1, b"csv") {
-        print_table(false);
-        return;
+fn main(rt: HostRuntime) -> io::Result<()> {
+    if argument_is(&rt, 1, b"csv") {
+        return print_table(&rt, false);
     }
-    if argument_is(1, b"json") {
-        print_table(true);
-        return;
+    if argument_is(&rt, 1, b"json") {
+        return print_table(&rt, true);
     }
-    write_word(b"the argument is csv or json\n");
+    write_word(&rt, b"the argument is csv or json\n")
 }

@@ -5,6 +5,7 @@ ghost use Rattle.cmd_worse.specs.Standing.{standing};
 
 use program::{write_number, write_word};
 use rfc4737::Counts;
+use std::io;
 use worse::{greater, reordered_ratio};
 
 // Which of two samples has the greater reordered ratio.
@@ -39,19 +40,18 @@ fn hundredths(part: u32, whole: u32) -> u64
 }
 
 // Writes the reordered ratio of a sample: `reordered` of `arrived` packets.
-pub(crate) fn write_ratio(reordered: u32, arrived: u32) {
+pub(crate) fn write_ratio(rt: &impl Print, reordered: u32, arrived: u32) -> io::Result<()> {
     if arrived == 0 {
-        write_word(b"no ratio, as nothing arrived, which counts as 0");
-        return;
+        return write_word(rt, b"no ratio, as nothing arrived, which counts as 0");
     }
-    write_number(reordered as u64);
-    write_word(b"/");
-    write_number(arrived as u64);
+    write_number(rt, reordered as u64)?;
+    write_word(rt, b"/")?;
+    write_number(rt, arrived as u64)?;
     let share = hundredths(reordered, arrived);
-    write_word(b" = ");
-    write_number(share / 100);
-    write_word(b".");
-    write_number(share / 10 % 10);
-    write_number(share % 10);
-    write_word(b" %");
+    write_word(rt, b" = ")?;
+    write_number(rt, share / 100)?;
+    write_word(rt, b".")?;
+    write_number(rt, share / 10 % 10)?;
+    write_number(rt, share % 10)?;
+    write_word(rt, b" %")
 }

@@ -6,34 +6,35 @@ pub mod same;
 use cases::print::{write_number, write_word};
 use receiver::{Lateness, Outcome, ReceiverAnswer};
 use rfc4737::LateTime;
+use std::io;
 
 // Prints the extent and the late time of a reordered packet; a late time before has a minus.
-fn write_late(word: &[u8], lateness: Lateness) {
+fn write_late(rt: &impl Print, word: &[u8], lateness: Lateness) -> io::Result<()> {
     let late = lateness.late;
-    write_word(word);
-    write_number(b" extent ", lateness.extent as u64);
+    write_word(rt, word)?;
+    write_number(rt, b" extent ", lateness.extent as u64)?;
     match late {
-        LateTime::After(t) => write_number(b" late ", t),
-        LateTime::Before(t) => write_number(b" late -", t),
+        LateTime::After(t) => write_number(rt, b" late ", t),
+        LateTime::Before(t) => write_number(rt, b" late -", t),
     }
 }
 
 // Prints what a receiver notes of an arrival.
-fn write_noted(noted: ReceiverAnswer) {
+fn write_noted(rt: &impl Print, noted: ReceiverAnswer) -> io::Result<()> {
     match noted {
-        ReceiverAnswer::Duplicate => write_word(b"duplicate"),
-        ReceiverAnswer::InOrder(jump) => write_number(b"in order, jump ", jump as u64),
-        ReceiverAnswer::Exact(lateness) => write_late(b"reordered,", lateness),
-        ReceiverAnswer::Beyond(lateness) => write_late(b"beyond the window,", lateness),
+        ReceiverAnswer::Duplicate => write_word(rt, b"duplicate"),
+        ReceiverAnswer::InOrder(jump) => write_number(rt, b"in order, jump ", jump as u64),
+        ReceiverAnswer::Exact(lateness) => write_late(rt, b"reordered,", lateness),
+        ReceiverAnswer::Beyond(lateness) => write_late(rt, b"beyond the window,", lateness),
     }
 }
 
 // Prints the outcome of an arrival: the refusal, or what the receiver notes.
-pub fn write_outcome(outcome: Outcome) {
+pub fn write_outcome(rt: &impl Print, outcome: Outcome) -> io::Result<()> {
     let noted = outcome.noted;
     if outcome.refusal != 0 {
-        write_number(b"refused ", outcome.refusal as u64);
+        write_number(rt, b"refused ", outcome.refusal as u64)
     } else {
-        write_noted(noted);
+        write_noted(rt, noted)
     }
 }

@@ -10,6 +10,7 @@ use cases::print::{write_64, write_number, write_word};
 use cases::text::{count, input, part};
 use rfc4737::Measure;
 use sample_text::{ROOM, put_sample};
+use std::io;
 
 // How many octets of cases are read at most.
 const INPUT_OCTETS: usize = 4096;
@@ -29,68 +30,77 @@ fn measure_of(number: u32) -> Measure {
 }
 
 // Writes the greatest needs of a sample.
-fn write_needs(file: &[u8]) {
+fn write_needs(rt: &impl Print, file: &[u8]) -> io::Result<()> {
     let needs = metrics::greatest_needs(file);
-    write_number(b": needs ", needs.refusal as u64);
-    write_number(b", packets ", needs.packets);
-    write_number(b", octets ", needs.octets);
-    write_number(b", time ", needs.time);
+    write_number(rt, b": needs ", needs.refusal as u64)?;
+    write_number(rt, b", packets ", needs.packets)?;
+    write_number(rt, b", octets ", needs.octets)?;
+    write_number(rt, b", time ", needs.time)
 }
 
 // Writes how many first arrivals a buffer accommodates.
-fn write_accommodated(file: &[u8], measure: Measure, size: u64) {
+fn write_accommodated(rt: &impl Print, file: &[u8], measure: Measure, size: u64) -> io::Result<()> {
     let found = metrics::accommodated(file, measure, size);
-    write_number(b"; accommodated ", found.refusal as u64);
-    write_number(b", ", found.accommodated as u64);
-    write_number(b" of ", found.arrived as u64);
+    write_number(rt, b"; accommodated ", found.refusal as u64)?;
+    write_number(rt, b", ", found.accommodated as u64)?;
+    write_number(rt, b" of ", found.arrived as u64)
 }
 
 // Writes the least size for a share.
-fn write_least(file: &[u8], measure: Measure, share: u32, whole: u32) {
+fn write_least(
+    rt: &impl Print,
+    file: &[u8],
+    measure: Measure,
+    share: u32,
+    whole: u32,
+) -> io::Result<()> {
     let found = buffering::least(file, measure, share, whole);
-    write_number(b"; least ", found.refusal as u64);
-    write_number(b", ", found.size);
+    write_number(rt, b"; least ", found.refusal as u64)?;
+    write_number(rt, b", ", found.size)
 }
 
 // Fills a list with the rows of a sample, and writes it.
-fn write_list(file: &[u8], rows: &mut [u64]) {
+fn write_list(rt: &impl Print, file: &[u8], rows: &mut [u64]) -> io::Result<()> {
     let layout = metrics::record_rows(file, rows);
-    write_number(b"; rows ", layout.refusal as u64);
-    write_64(b",", rows);
+    write_number(rt, b"; rows ", layout.refusal as u64)?;
+    write_64(rt, b",", rows)
 }
 
 // Writes the rows in a list of `places` places, if it has no more than 64.
-fn write_rows(file: &[u8], places: usize) {
+fn write_rows(rt: &impl Print, file: &[u8], places: usize) -> io::Result<()> {
     let mut rows = [7u64; ROW_PLACES];
     if places <= ROW_PLACES {
-        write_list(file, &mut rows[0..places]);
+        write_list(rt, file, &mut rows[0..places])?;
     }
+    Ok(())
 }
 
 // Runs the case of a line.
-fn run(line: &[u8]) {
+fn run(rt: &impl Print, line: &[u8]) -> io::Result<()> {
     let mut file = [0u8; ROOM];
     let n = put_sample(field(line, 1), &mut file);
     let octets = first_8(&file, n);
     let measure = measure_of(number_in_32(line, 2));
-    write_word(field(line, 0));
-    write_needs(octets);
-    write_accommodated(octets, measure, number_in(line, 3));
+    write_word(rt, field(line, 0))?;
+    write_needs(rt, octets)?;
+    write_accommodated(rt, octets, measure, number_in(line, 3))?;
     write_least(
+        rt,
         octets,
         measure,
         number_in_32(line, 4),
         number_in_32(line, 5),
-    );
-    write_rows(octets, number_in(line, 6) as usize);
-    write_word(b"\n");
+    )?;
+    write_rows(rt, octets, number_in(line, 6) as usize)?;
+    write_word(rt, b"\n")
 }
 
 // Runs the cases of all lines.
-fn main() {
+fn main(rt: HostRuntime) -> io::Result<()> {
     let mut room = [0u8; INPUT_OCTETS];
-    let text = input(&mut room);
+    let text = input(&rt, &mut room)?;
     for i in 0..count(text, b'\n') {
-        run(part(text, b'\n', i));
+        run(&rt, part(text, b'\n', i))?;
     }
+    Ok(())
 }

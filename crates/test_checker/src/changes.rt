@@ -3,6 +3,7 @@ use cases::lists::first_8;
 use cases::print::{write_number, write_word};
 use checker::{Verdict, check};
 use sample_text::{ROOM, put_sample};
+use std::io;
 use std::num::wrapping_add_u32;
 
 // The length of the listing.
@@ -60,14 +61,15 @@ fn changes(sample: &[u8], listing: &mut [u8]) -> u32 {
 }
 
 // Makes every change, with the sample of a text, and prints how many are reported at their lines.
-pub(crate) fn every_change(text: &[u8], listing: &[u8]) {
+pub(crate) fn every_change(rt: &impl Print, text: &[u8], listing: &[u8]) -> io::Result<()> {
     let mut file = [0u8; ROOM];
     let n = put_sample(text, &mut file);
     let mut changed = [0u8; OCTETS];
     octets::put_octets(&mut changed, 0, listing);
     write_number(
+        rt,
         b"changes of one octet found at their lines: ",
         changes(first_8(&file, n), &mut changed) as u64,
-    );
-    write_word(b"\n");
+    )?;
+    write_word(rt, b"\n")
 }

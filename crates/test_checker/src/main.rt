@@ -14,6 +14,7 @@ use cases::text::{INPUT_OCTETS, count, input, part};
 use changes::{OCTETS, every_change};
 use checker::{Verdict, check};
 use sample_text::{ROOM, put_sample};
+use std::io;
 use std::num::wrapping_add_usize;
 
 // The octets from offset `n` on; none if there are no more.
@@ -25,16 +26,21 @@ fn octets_from(s: &[u8], n: usize) -> &[u8] {
 }
 
 // Checks a listing, and prints the case's name, the refusal and the verdict.
-fn write_sample_verdict(name: &[u8], sample: &[u8], listing: &[u8]) {
+fn write_sample_verdict(
+    rt: &impl Print,
+    name: &[u8],
+    sample: &[u8],
+    listing: &[u8],
+) -> io::Result<()> {
     let result = check(sample, listing);
     let verdict = result.verdict;
-    write_word(name);
-    write_number(b": refusal ", result.refusal as u64);
+    write_word(rt, name)?;
+    write_number(rt, b": refusal ", result.refusal as u64)?;
     match verdict {
-        Verdict::Agrees => write_word(b", agrees"),
-        Verdict::WrongLine(n) => write_number(b", line ", n as u64),
+        Verdict::Agrees => write_word(rt, b", agrees")?,
+        Verdict::WrongLine(n) => write_number(rt, b", line ", n as u64)?,
     }
-    write_word(b"\n");
+    write_word(rt, b"\n")
 }
 
 // Writes the listing with the edit that a case's line gives; returns its length.
@@ -51,25 +57,25 @@ fn put_edited(listing: &[u8], line: &[u8], out: &mut [u8]) -> usize {
 }
 
 // Runs the case of a line.
-fn run(listing: &[u8], line: &[u8]) {
+fn run(rt: &impl Print, listing: &[u8], line: &[u8]) -> io::Result<()> {
     let mut file = [0u8; ROOM];
     let mut text = [0u8; 256];
     let n = put_sample(field(line, 1), &mut file);
     let m = put_edited(listing, line, &mut text);
-    write_sample_verdict(field(line, 0), first_8(&file, n), first_8(&text, m));
+    write_sample_verdict(rt, field(line, 0), first_8(&file, n), first_8(&text, m))
 }
 
 // Runs the cases of all lines, then every change of one octet, with the sample of the first line.
-fn run_all(listing: &[u8], lines: &[u8]) {
+fn run_all(rt: &impl Print, listing: &[u8], lines: &[u8]) -> io::Result<()> {
     for i in 0..count(lines, b'\n') {
-        run(listing, part(lines, b'\n', i));
+        run(rt, listing, part(lines, b'\n', i))?;
     }
-    every_change(field(part(lines, b'\n', 0), 1), listing);
+    every_change(rt, field(part(lines, b'\n', 0), 1), listing)
 }
 
 // Runs all cases.
-fn main() {
+fn main(rt: HostRuntime) -> io::Result<()> {
     let mut room = [0u8; INPUT_OCTETS];
-    let text = input(&mut room);
-    run_all(first_8(text, OCTETS), octets_from(text, OCTETS));
+    let text = input(&rt, &mut room)?;
+    run_all(&rt, first_8(text, OCTETS), octets_from(text, OCTETS))
 }

@@ -7,23 +7,25 @@ use cases::lists::first_8;
 use cases::print::{write_number, write_word};
 use cases::text::{INPUT_OCTETS, count, input, part};
 use sample_text::{ROOM, put_sample};
+use std::io;
 
 // Runs the case of a line.
-fn run(line: &[u8]) {
+fn run(rt: &impl Print, line: &[u8]) -> io::Result<()> {
     let mut file = [0u8; ROOM];
     let n = put_sample(field(line, 1), &mut file);
     let answer = disorder::total(first_8(&file, n));
-    write_word(field(line, 0));
-    write_number(b": refusal ", answer.refusal as u64);
-    write_number(b", total ", answer.total as u64);
-    write_word(b"\n");
+    write_word(rt, field(line, 0))?;
+    write_number(rt, b": refusal ", answer.refusal as u64)?;
+    write_number(rt, b", total ", answer.total as u64)?;
+    write_word(rt, b"\n")
 }
 
 // Runs the cases of all lines.
-fn main() {
+fn main(rt: HostRuntime) -> io::Result<()> {
     let mut room = [0u8; INPUT_OCTETS];
-    let text = input(&mut room);
+    let text = input(&rt, &mut room)?;
     for i in 0..count(text, b'\n') {
-        run(part(text, b'\n', i));
+        run(&rt, part(text, b'\n', i))?;
     }
+    Ok(())
 }

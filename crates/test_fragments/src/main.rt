@@ -12,6 +12,7 @@ use cases::lists::{
 use cases::print::{write_8, write_number, write_word};
 use cases::text::{INPUT_OCTETS, count, input, number, part};
 use fragments::order;
+use std::io;
 
 // The number of numbers: `given`, or, if that is 0, the length `listed` of the list.
 fn numbers_for(listed: usize, given: u32) -> usize {
@@ -22,16 +23,22 @@ fn numbers_for(listed: usize, given: u32) -> usize {
 }
 
 // Prints a case's name, the refusal, and both lists after the call.
-fn write_lists(name: &[u8], refusal: u32, flags: &[u8], usable: &[u8]) {
-    write_word(name);
-    write_number(b": refused ", refusal as u64);
-    write_8(b"; flags", flags);
-    write_8(b"; usable", usable);
-    write_word(b"\n");
+fn write_lists(
+    rt: &impl Print,
+    name: &[u8],
+    refusal: u32,
+    flags: &[u8],
+    usable: &[u8],
+) -> io::Result<()> {
+    write_word(rt, name)?;
+    write_number(rt, b": refused ", refusal as u64)?;
+    write_8(rt, b"; flags", flags)?;
+    write_8(rt, b"; usable", usable)?;
+    write_word(rt, b"\n")
 }
 
 // Runs the case of a line with these two lists.
-fn run_into(line: &[u8], flags: &mut [u8], usable: &mut [u8]) {
+fn run_into(rt: &impl Print, line: &[u8], flags: &mut [u8], usable: &mut [u8]) -> io::Result<()> {
     let mut numbers = [6u32; TOO_MANY];
     let mut times = [0u64; 6];
     let mut lengths = [0u16; 6];
@@ -52,23 +59,24 @@ fn run_into(line: &[u8], flags: &mut [u8], usable: &mut [u8]) {
         flags,
         usable,
     );
-    write_lists(field(line, 1), refusal, flags, usable);
+    write_lists(rt, field(line, 1), refusal, flags, usable)
 }
 
 // Runs the case of a line.
-fn run(line: &[u8]) {
+fn run(rt: &impl Print, line: &[u8]) -> io::Result<()> {
     let mut flags = [9u8; 6];
     let mut usable = [9u8; 6];
     let f = least(number(field(line, 0), 0) as usize, 6);
     let u = least(number(field(line, 0), 1) as usize, 6);
-    run_into(line, &mut flags[0..f], &mut usable[0..u]);
+    run_into(rt, line, &mut flags[0..f], &mut usable[0..u])
 }
 
 // Runs the cases of all lines.
-fn main() {
+fn main(rt: HostRuntime) -> io::Result<()> {
     let mut room = [0u8; INPUT_OCTETS];
-    let text = input(&mut room);
+    let text = input(&rt, &mut room)?;
     for i in 0..count(text, b'\n') {
-        run(part(text, b'\n', i));
+        run(&rt, part(text, b'\n', i))?;
     }
+    Ok(())
 }

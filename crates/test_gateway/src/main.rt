@@ -9,6 +9,7 @@ use cases::MAX_ARRIVALS;
 use cases::print::{write_number, write_word};
 use receiver::{Outcome, Receiver, StepAnswer};
 use receiver_text::write_outcome;
+use std::io;
 
 // The number of arrivals that a receiver accepts.
 const ARRIVALS: u32 = MAX_ARRIVALS as u32;
@@ -39,18 +40,18 @@ fn in_place(state: Receiver, number: u32, time: u64) -> StepAnswer
 }
 
 // Writes a line: by which way, what is said, and some of what the receiver holds.
-fn write_fed(way: &[u8], s: StepAnswer) {
+fn write_fed(rt: &impl Print, way: &[u8], s: StepAnswer) -> io::Result<()> {
     let outcome = s.outcome;
     let stream = s.state.stream;
-    write_word(way);
-    write_outcome(outcome);
-    write_number(b"; L ", stream.arrived as u64);
-    write_number(b" duplicates ", stream.duplicates as u64);
-    write_number(b" in order ", stream.inorder as u64);
-    write_number(b" NextExp ", stream.next as u64);
-    write_number(b" greatest ", stream.greatest);
-    write_number(b" jumps ", stream.kept as u64);
-    write_word(b"\n");
+    write_word(rt, way)?;
+    write_outcome(rt, outcome)?;
+    write_number(rt, b"; L ", stream.arrived as u64)?;
+    write_number(rt, b" duplicates ", stream.duplicates as u64)?;
+    write_number(rt, b" in order ", stream.inorder as u64)?;
+    write_number(rt, b" NextExp ", stream.next as u64)?;
+    write_number(rt, b" greatest ", stream.greatest)?;
+    write_number(rt, b" jumps ", stream.kept as u64)?;
+    write_word(rt, b"\n")
 }
 
 // The three receivers.
@@ -71,62 +72,63 @@ fn thrice(state: Receiver) -> Three {
 }
 
 // Feeds one arrival to each, and writes it and what comes of it.
-fn feed(p: Three, number: u32, time: u64) -> Three {
+fn feed(rt: &impl Print, p: Three, number: u32, time: u64) -> io::Result<Three> {
     let a = by_reference(p.lent, number, time);
     let b = p.value.step(number, time);
     let c = in_place(p.place, number, time);
-    write_number(b"", number as u64);
-    write_number(b" at ", time);
-    write_word(b"\n");
-    write_fed(b"  lent:  ", a);
-    write_fed(b"  value: ", b);
-    write_fed(b"  place: ", c);
+    write_number(rt, b"", number as u64)?;
+    write_number(rt, b" at ", time)?;
+    write_word(rt, b"\n")?;
+    write_fed(rt, b"  lent:  ", a)?;
+    write_fed(rt, b"  value: ", b)?;
+    write_fed(rt, b"  place: ", c)?;
     let lent = a.state;
     let value = b.state;
     let place = c.state;
-    Three { lent, value, place }
+    Ok(Three { lent, value, place })
 }
 
 // Feeds the list of arrivals, K being 8.
-fn main() {
+fn main(rt: HostRuntime) -> io::Result<()> {
     let start = Receiver::fresh(8);
     let state = start.state;
     let p = thrice(state);
     // In order, the third with a jump over 3 and 4.
-    let p = feed(p, 1, 1010);
-    let p = feed(p, 2, 1020);
-    let p = feed(p, 5, 1030);
+    let p = feed(&rt, p, 1, 1010)?;
+    let p = feed(&rt, p, 2, 1020)?;
+    let p = feed(&rt, p, 5, 1030)?;
     // Reordered, and again.
-    let p = feed(p, 4, 1040);
-    let p = feed(p, 4, 1050);
+    let p = feed(&rt, p, 4, 1040)?;
+    let p = feed(&rt, p, 4, 1050)?;
     // Refused by 6, by 6 and by 7, 1,001 below the greatest time; and then taken, 1,000 below it.
-    let p = feed(p, 0, 1060);
-    let p = feed(p, 9, 1060);
-    let p = feed(p, 3, 49);
-    let p = feed(p, 3, 50);
+    let p = feed(&rt, p, 0, 1060)?;
+    let p = feed(&rt, p, 9, 1060)?;
+    let p = feed(&rt, p, 3, 49)?;
+    let p = feed(&rt, p, 3, 50)?;
     // A second jump, again, and the two packets that it skipped, one of them stamped before it.
-    let p = feed(p, 8, 1070);
-    let p = feed(p, 8, 1080);
-    let p = feed(p, 6, 1069);
-    let p = feed(p, 7, 1090);
+    let p = feed(&rt, p, 8, 1070)?;
+    let p = feed(&rt, p, 8, 1080)?;
+    let p = feed(&rt, p, 6, 1069)?;
+    let p = feed(&rt, p, 7, 1090)?;
     // The first packet again.
-    feed(p, 1, 1100);
-    refused_states(state);
+    feed(&rt, p, 1, 1100)?;
+    refused_states(&rt, state)
 }
 
 // Feeds an arrival to states that refuse every arrival, or a reordered one. The first has accepted 4,096 arrivals (11), the second has
 // more first arrivals than packets (10), and in the third a reordered packet finds no greater jump (10).
-fn refused_states(state: Receiver) {
+fn refused_states(rt: &impl Print, state: Receiver) -> io::Result<()> {
     let mut full = state;
     full.stream.duplicates = ARRIVALS;
     let p = thrice(full);
-    feed(p, 1, 10);
+    feed(rt, p, 1, 10)?;
     let mut unfit = state;
     unfit.stream.arrived = 9;
     let p = thrice(unfit);
-    feed(p, 1, 10);
+    feed(rt, p, 1, 10)?;
     let mut late = state;
     late.stream.next = 3;
     let p = thrice(late);
-    feed(p, 1, 10);
+    feed(rt, p, 1, 10)?;
+    Ok(())
 }

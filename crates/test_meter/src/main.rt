@@ -17,17 +17,19 @@ mod say;
 use cases::text::{count, input, part};
 use meter::Meter;
 use run::run;
+use std::io;
 
 // How many octets of cases are read at most.
 const MOST: usize = 4096;
 
 // Does what all lines say.
-fn main() {
+fn main(rt: HostRuntime) -> io::Result<()> {
     let mut room = [0u8; MOST];
-    let text = input(&mut room);
+    let text = input(&rt, &mut room)?;
     let mut m = Meter::new();
     for i in 0..count(text, b'\n') {
-        let next = run(m, part(text, b'\n', i));
+        let next = run(&rt, m, part(text, b'\n', i))?;
         m = next;
     }
+    Ok(())
 }

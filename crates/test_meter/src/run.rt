@@ -2,6 +2,7 @@
 use crate::say::say;
 use cases::fields::{first_octet, number_in, number_in_32};
 use meter::Meter;
+use std::io;
 use std::num::{wrapping_add_u32, wrapping_add_u64};
 
 // The meter with the stream of a line started afresh.
@@ -41,20 +42,20 @@ fn changed(m: Meter, line: &[u8]) -> Meter {
 }
 
 // Does what a line says, and gives the meter after it.
-pub(crate) fn run(m: Meter, line: &[u8]) -> Meter {
+pub(crate) fn run(rt: &impl Print, m: Meter, line: &[u8]) -> io::Result<Meter> {
     let kind = first_octet(line);
     if kind == b'n' {
-        return Meter::new();
+        return Ok(Meter::new());
     }
     if kind == b'b' {
-        return begun(m, line);
+        return Ok(begun(m, line));
     }
     if kind == b'f' {
-        return fed(m, line);
+        return Ok(fed(m, line));
     }
     if kind == b'm' {
-        return changed(m, line);
+        return Ok(changed(m, line));
     }
-    say(m, line, kind);
-    m
+    say(rt, m, line, kind)?;
+    Ok(m)
 }

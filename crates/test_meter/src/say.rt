@@ -4,6 +4,7 @@ use cases::print::{write_either, write_number, write_word};
 use meter::{Meter, StreamState};
 use receiver_text::same::{same_marked, same_places};
 use receiver_text::write_outcome;
+use std::io;
 
 // Whether what two streams have for themselves is the same.
 fn same_state(a: StreamState, b: StreamState) -> bool {
@@ -22,54 +23,60 @@ fn same(a: Meter, b: Meter) -> bool {
 }
 
 // Writes, where a call is refused, whether the meter came back the same.
-fn write_same(refusal: u32, before: Meter, after: Meter) {
+fn write_same(rt: &impl Print, refusal: u32, before: Meter, after: Meter) -> io::Result<()> {
     if refusal != 0 {
-        write_either(same(before, after), b", meter equal", b", meter CHANGED");
+        write_either(
+            rt,
+            same(before, after),
+            b", meter equal",
+            b", meter CHANGED",
+        )?;
     }
+    Ok(())
 }
 
 // The arrival of a line: writes what is said of it.
-fn arrives(m: Meter, line: &[u8]) {
+fn arrives(rt: &impl Print, m: Meter, line: &[u8]) -> io::Result<()> {
     let s = m.step(
         number_in_32(line, 2),
         number_in_32(line, 3),
         number_in(line, 4),
     );
     let outcome = s.outcome;
-    write_outcome(outcome);
-    write_same(outcome.refusal, m, s.state);
+    write_outcome(rt, outcome)?;
+    write_same(rt, outcome.refusal, m, s.state)
 }
 
 // The fresh start of a line: writes the refusal.
-fn starts(m: Meter, line: &[u8]) {
+fn starts(rt: &impl Print, m: Meter, line: &[u8]) -> io::Result<()> {
     let s = m.start(number_in_32(line, 2), number_in_32(line, 3));
-    write_number(b"refused ", s.refusal as u64);
-    write_same(s.refusal, m, s.state);
+    write_number(rt, b"refused ", s.refusal as u64)?;
+    write_same(rt, s.refusal, m, s.state)
 }
 
 // Writes how many jumps the streams keep.
-fn kept(m: Meter) {
-    write_number(b"stream 1 keeps ", m.first.stream.kept as u64);
-    write_number(b", stream 2 keeps ", m.second.stream.kept as u64);
+fn kept(rt: &impl Print, m: Meter) -> io::Result<()> {
+    write_number(rt, b"stream 1 keeps ", m.first.stream.kept as u64)?;
+    write_number(rt, b", stream 2 keeps ", m.second.stream.kept as u64)
 }
 
 // Writes the case's name, and what comes of it.
-fn say_case(m: Meter, line: &[u8], kind: u8) {
-    write_word(b": ");
+fn say_case(rt: &impl Print, m: Meter, line: &[u8], kind: u8) -> io::Result<()> {
+    write_word(rt, b": ")?;
     if kind == b'k' {
-        kept(m);
+        kept(rt, m)
     } else if kind == b's' {
-        starts(m, line);
+        starts(rt, m, line)
     } else {
-        arrives(m, line);
+        arrives(rt, m, line)
     }
 }
 
 // Writes what a line says.
-pub(crate) fn say(m: Meter, line: &[u8], kind: u8) {
-    write_word(field(line, 1));
+pub(crate) fn say(rt: &impl Print, m: Meter, line: &[u8], kind: u8) -> io::Result<()> {
+    write_word(rt, field(line, 1))?;
     if kind != b'w' {
-        say_case(m, line, kind);
+        say_case(rt, m, line, kind)?;
     }
-    write_word(b"\n");
+    write_word(rt, b"\n")
 }

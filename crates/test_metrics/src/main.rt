@@ -19,51 +19,55 @@ use cases::text::{count, input, part};
 use figures::{write_all, write_ratio, write_record, write_rows, write_steps};
 use listings::{list, list_into};
 use sample_text::{ROOM, put_sample};
+use std::io;
 
 // How many octets of cases are read at most.
 const MOST: usize = 4096;
 
 // Writes what a line asks of its sample.
-fn write_case(line: &[u8], file: &[u8]) {
+fn write_case(rt: &impl Print, line: &[u8], file: &[u8]) -> io::Result<()> {
     let kind = first_octet(line);
     let number = number_in_32(line, 3);
     if kind == b'a' {
-        write_all(file);
+        write_all(rt, file)?;
     } else if kind == b'r' {
-        write_record(file, number);
+        write_record(rt, file, number)?;
     } else if kind == b'n' {
-        write_ratio(file, number);
+        write_ratio(rt, file, number)?;
     } else if kind == b'o' {
-        list_into(file, number as usize);
+        list_into(rt, file, number as usize)?;
     } else if kind == b'f' {
-        write_rows(file, number);
+        write_rows(rt, file, number)?;
     } else if kind == b's' {
         write_steps(
+            rt,
             file,
             number_in(line, 3),
             number_in_32(line, 4),
             number_in(line, 5) as usize,
-        );
+        )?;
     }
-    write_word(b"\n");
+    write_word(rt, b"\n")?;
     if kind == b'l' {
-        list(file);
+        list(rt, file)?;
     }
+    Ok(())
 }
 
 // Runs the case of a line.
-fn run(line: &[u8]) {
+fn run(rt: &impl Print, line: &[u8]) -> io::Result<()> {
     let mut file = [0u8; ROOM];
     let n = put_sample(field(line, 2), &mut file);
-    write_word(field(line, 1));
-    write_case(line, first_8(&file, n));
+    write_word(rt, field(line, 1))?;
+    write_case(rt, line, first_8(&file, n))
 }
 
 // Runs the cases of all lines.
-fn main() {
+fn main(rt: HostRuntime) -> io::Result<()> {
     let mut room = [0u8; MOST];
-    let text = input(&mut room);
+    let text = input(&rt, &mut room)?;
     for i in 0..count(text, b'\n') {
-        run(part(text, b'\n', i));
+        run(&rt, part(text, b'\n', i))?;
     }
+    Ok(())
 }

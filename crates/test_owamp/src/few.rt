@@ -5,6 +5,7 @@ use cases::fields::{field, number_in_32};
 use cases::lists::first_8;
 use cases::text::number;
 use octets::put_number;
+use std::io;
 
 // Writes record i + 1: number i of the sequence numbers, of the seconds and of the fractions, each 0 if none is given.
 fn put_packet_record(records: &mut [u8], line: &[u8], i: u16) {
@@ -15,7 +16,7 @@ fn put_packet_record(records: &mut [u8], line: &[u8], i: u16) {
 }
 
 // Runs the case of a line.
-pub(crate) fn run(line: &[u8]) {
+pub(crate) fn run(rt: &impl Print, line: &[u8]) -> io::Result<()> {
     let mut records = [OTHER; 150];
     put_packet_record(&mut records, line, 0);
     put_packet_record(&mut records, line, 1);
@@ -24,10 +25,11 @@ pub(crate) fn run(line: &[u8]) {
     put_packet_record(&mut records, line, 4);
     put_packet_record(&mut records, line, 5);
     import_into(
+        rt,
         field(line, 1),
         number_in_32(line, 2),
         first_8(&records, number_in_32(line, 3) as usize),
         &mut [NUMBER; 5],
         &mut [TIME; 5],
-    );
+    )
 }

@@ -16,25 +16,27 @@ mod writing;
 
 use cases::fields::first_octet;
 use cases::text::{INPUT_OCTETS, count, input, part};
+use std::io;
 
 // What the octets of a record hold that are not read: all but the four of the sequence number, at offset 0, and the eight of the receive
 // time, at offset 16 (RFC 4656, section 3.9).
 pub(crate) const OTHER: u8 = 9;
 
 // Runs the case of a line.
-fn run(line: &[u8]) {
+fn run(rt: &impl Print, line: &[u8]) -> io::Result<()> {
     match first_octet(line) {
-        b'f' => few::run(line),
-        b'm' => many::run(line),
-        _ => writing::run(line),
+        b'f' => few::run(rt, line),
+        b'm' => many::run(rt, line),
+        _ => writing::run(rt, line),
     }
 }
 
 // Runs the cases of all lines.
-fn main() {
+fn main(rt: HostRuntime) -> io::Result<()> {
     let mut room = [0u8; INPUT_OCTETS];
-    let text = input(&mut room);
+    let text = input(&rt, &mut room)?;
     for i in 0..count(text, b'\n') {
-        run(part(text, b'\n', i));
+        run(&rt, part(text, b'\n', i))?;
     }
+    Ok(())
 }

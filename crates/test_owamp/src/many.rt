@@ -5,6 +5,7 @@ use cases::fields::{field, number_in_32};
 use cases::lists::{first_8, least};
 use cases::series::put_series;
 use cases::{MAX_ARRIVALS, TOO_MANY};
+use std::io;
 
 // The number of arrivals.
 const ARRIVALS: u16 = TOO_MANY as u16;
@@ -59,21 +60,22 @@ fn put_order(records: &mut [u8], order: u32) {
 }
 
 // Imports records into two lists of the length that the line says, LONG_LENGTH at most.
-fn import_records(line: &[u8], records: &[u8]) {
+fn import_records(rt: &impl Print, line: &[u8], records: &[u8]) -> io::Result<()> {
     let mut numbers = [NUMBER; LONG_LENGTH];
     let mut times = [TIME; LONG_LENGTH];
     let n = least(number_in_32(line, 2) as usize, LONG_LENGTH);
     import_and_sum(
+        rt,
         field(line, 1),
         MAX_ARRIVALS as u32,
         records,
         &mut numbers[0..n],
         &mut times[0..n],
-    );
+    )
 }
 
 // Runs the case of a line.
-pub(crate) fn run(line: &[u8]) {
+pub(crate) fn run(rt: &impl Print, line: &[u8]) -> io::Result<()> {
     let mut records = [OTHER; OCTETS];
     put_series(&mut records, 0, 4, 50, ARRIVALS, 0, 1);
     put_series(&mut records, 25, 4, 50, ARRIVALS, 4_294_967_295, 0);
@@ -81,7 +83,8 @@ pub(crate) fn run(line: &[u8]) {
     put_order(&mut records, number_in_32(line, 3));
     octets::put_number(&mut records, 204_750, 4, number_in_32(line, 5) as u64);
     import_records(
+        rt,
         line,
         first_8(&records, 50 * (number_in_32(line, 4) as usize)),
-    );
+    )
 }

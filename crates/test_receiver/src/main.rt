@@ -14,6 +14,7 @@ use cases::text::{count, input, part};
 use receiver::Receiver;
 use receiver_text::same::same;
 use receiver_text::write_outcome;
+use std::io;
 use std::num::{wrapping_add_u32, wrapping_add_u64};
 
 // How many octets of cases are read at most.
@@ -56,64 +57,71 @@ fn changed(r: Receiver, line: &[u8]) -> Receiver {
 
 // Feeds the arrival of a line, and writes the case's name, what is said, and where that is a refusal whether the receiver came back the
 // same.
-fn arrives(r: Receiver, line: &[u8]) {
+fn arrives(rt: &impl Print, r: Receiver, line: &[u8]) -> io::Result<()> {
     let s = r.step(number_in_32(line, 2), number_in(line, 3));
     let outcome = s.outcome;
     let after = s.state;
-    write_word(field(line, 1));
-    write_word(b": ");
-    write_outcome(outcome);
+    write_word(rt, field(line, 1))?;
+    write_word(rt, b": ")?;
+    write_outcome(rt, outcome)?;
     if outcome.refusal != 0 {
-        write_either(same(r, after), b", receiver equal", b", receiver CHANGED");
+        write_either(
+            rt,
+            same(r, after),
+            b", receiver equal",
+            b", receiver CHANGED",
+        )?;
     }
-    write_word(b"\n");
+    write_word(rt, b"\n")
 }
 
 // Makes the receiver of a line, and writes the case's name, the refusal, and whether it is the same as the other.
-fn made(line: &[u8]) {
+fn made(rt: &impl Print, line: &[u8]) -> io::Result<()> {
     let start = Receiver::fresh(number_in_32(line, 2));
     let state = start.state;
     let expected = receiver_for(number_in_32(line, 3));
-    write_word(field(line, 1));
-    write_number(b": refused ", start.refusal as u64);
-    write_number(b", K ", state.stream.sent as u64);
-    write_number(b", NextExp ", state.stream.next as u64);
+    write_word(rt, field(line, 1))?;
+    write_number(rt, b": refused ", start.refusal as u64)?;
+    write_number(rt, b", K ", state.stream.sent as u64)?;
+    write_number(rt, b", NextExp ", state.stream.next as u64)?;
     write_either(
+        rt,
         same(state, expected),
         b", as fresh for K ",
         b", NOT as fresh for K ",
-    );
-    write_number(b"", number_in(line, 3));
-    write_word(b"\n");
+    )?;
+    write_number(rt, b"", number_in(line, 3))?;
+    write_word(rt, b"\n")
 }
 
 // Does what a line says, and gives the receiver after it.
-fn run(r: Receiver, line: &[u8]) -> Receiver {
+fn run(rt: &impl Print, r: Receiver, line: &[u8]) -> io::Result<Receiver> {
     let kind = first_octet(line);
     if kind == b'n' {
-        return receiver_for(number_in_32(line, 1));
+        return Ok(receiver_for(number_in_32(line, 1)));
     }
     if kind == b'f' {
-        return fed(r, line);
+        return Ok(fed(r, line));
     }
     if kind == b's' {
-        return changed(r, line);
+        return Ok(changed(r, line));
     }
     if kind == b'm' {
-        made(line);
+        made(rt, line)?;
     } else {
-        arrives(r, line);
+        arrives(rt, r, line)?;
     }
-    r
+    Ok(r)
 }
 
 // Does what all lines say.
-fn main() {
+fn main(rt: HostRuntime) -> io::Result<()> {
     let mut room = [0u8; MOST];
-    let text = input(&mut room);
+    let text = input(&rt, &mut room)?;
     let mut r = receiver_for(1);
     for i in 0..count(text, b'\n') {
-        let next = run(r, part(text, b'\n', i));
+        let next = run(&rt, r, part(text, b'\n', i))?;
         r = next;
     }
+    Ok(())
 }

@@ -16,21 +16,23 @@ mod writer;
 
 use cases::fields::first_octet;
 use cases::text::{INPUT_OCTETS, count, input, part};
+use std::io;
 
 // Runs the case of a line.
-fn run(line: &[u8]) {
+fn run(rt: &impl Print, line: &[u8]) -> io::Result<()> {
     match first_octet(line) {
-        b'f' => files::run(line),
-        b'i' => files::run_into(line),
-        _ => writer::run(line),
+        b'f' => files::run(rt, line),
+        b'i' => files::run_into(rt, line),
+        _ => writer::run(rt, line),
     }
 }
 
 // Runs the cases of all lines.
-fn main() {
+fn main(rt: HostRuntime) -> io::Result<()> {
     let mut room = [0u8; INPUT_OCTETS];
-    let text = input(&mut room);
+    let text = input(&rt, &mut room)?;
     for i in 0..count(text, b'\n') {
-        run(part(text, b'\n', i));
+        run(&rt, part(text, b'\n', i))?;
     }
+    Ok(())
 }

@@ -7,6 +7,7 @@ use cases::lists::{fill_32, fill_64, first_8, first_16, first_32, first_64, leas
 use cases::print::{write_either, write_number, write_word};
 use cases::same::kept_8;
 use cases::series::{series_32, series_64};
+use std::io;
 
 // The greatest length of the output for a small file.
 const SMALL: usize = 80;
@@ -14,36 +15,38 @@ const SMALL: usize = 80;
 // Writes a file into `out`, and prints the refusal or its length, and whether the octets after it are untouched. Returns
 // the length.
 fn write_into(
+    rt: &impl Print,
     label: &[u8],
     sizes: &[u16],
     numbers: &[u32],
     times: &[u64],
     out: &mut [u8],
-) -> usize {
+) -> io::Result<usize> {
     let w = sample::write(label, sizes, numbers, times, out);
     let n = w.length as usize;
     if w.refusal != 0 {
-        write_number(b": write refused ", w.refusal as u64);
-        write_word(b", output");
+        write_number(rt, b": write refused ", w.refusal as u64)?;
+        write_word(rt, b", output")?;
     } else {
-        write_number(b": written, octets ", w.length as u64);
-        write_word(b", the rest");
+        write_number(rt, b": written, octets ", w.length as u64)?;
+        write_word(rt, b", the rest")?;
     }
-    write_either(kept_8(out, n, OCTET), b" untouched", b" TOUCHED");
-    n
+    write_either(rt, kept_8(out, n, OCTET), b" untouched", b" TOUCHED")?;
+    Ok(n)
 }
 
 // Prints whether a written file is the one that the format's rules build.
-fn write_same(written: &[u8], built: &[u8]) {
+fn write_same(rt: &impl Print, written: &[u8], built: &[u8]) -> io::Result<()> {
     write_either(
-        check::same(written, built),
+        rt,
+        written == built,
         b", as the format has it",
         b", NOT as the format has it",
-    );
+    )
 }
 
 // Writes a file from as many label octets, sizes, numbers and times as the line says; returns its length.
-fn write_lists(line: &[u8], out: &mut [u8]) -> usize {
+fn write_lists(rt: &impl Print, line: &[u8], out: &mut [u8]) -> io::Result<usize> {
     let text = [b'x'; 65];
     let sizes = [100u16; TOO_MANY];
     let mut numbers = [0u32; TOO_MANY];
@@ -51,6 +54,7 @@ fn write_lists(line: &[u8], out: &mut [u8]) -> usize {
     series_32(&mut numbers, 1, 1);
     series_64(&mut times, 10, 10);
     write_into(
+        rt,
         first_8(&text, number_in_16(line, 2) as usize),
         first_16(&sizes, number_in_16(line, 3) as usize),
         first_32(&numbers, number_in_16(line, 4) as usize),
@@ -60,7 +64,7 @@ fn write_lists(line: &[u8], out: &mut [u8]) -> usize {
 }
 
 // Compares a file that `write_lists` wrote with the one that the format's rules build.
-fn compare_lists(line: &[u8], written: &[u8]) {
+fn compare_lists(rt: &impl Print, line: &[u8], written: &[u8]) -> io::Result<()> {
     let mut file = [b'x'; ROOM];
     let end = put_file(
         &mut file,
@@ -68,23 +72,23 @@ fn compare_lists(line: &[u8], written: &[u8]) {
         number_in_16(line, 3),
         number_in_16(line, 4),
     );
-    write_same(written, first_8(&file, end));
+    write_same(rt, written, first_8(&file, end))
 }
 
 // Runs a case of kind `lists`. A file that is written is compared.
-fn run_lists(line: &[u8]) {
+fn run_lists(rt: &impl Print, line: &[u8]) -> io::Result<()> {
     let mut out = [OCTET; ROOM];
-    write_word(field(line, 1));
-    let n = write_lists(line, &mut out);
+    write_word(rt, field(line, 1))?;
+    let n = write_lists(rt, line, &mut out)?;
     if n != 0 {
-        compare_lists(line, first_8(&out, n));
+        compare_lists(rt, line, first_8(&out, n))?;
     }
-    write_word(b"\n");
+    write_word(rt, b"\n")
 }
 
 // Runs a case of kind `octet`: a label with one octet changed, no size or one, and one arrival. A file that is written is compared with
 // the one that the format's rules build.
-fn run_octet(line: &[u8]) {
+fn run_octet(rt: &impl Print, line: &[u8]) -> io::Result<()> {
     let mut text = [b'x'; 65];
     let mut out = [OCTET; 30];
     let mut file = [b'x'; 30];
@@ -93,45 +97,47 @@ fn run_octet(line: &[u8]) {
     let end = put_file(&mut file, number_in_16(line, 2), number_in_16(line, 3), 1);
     octets::put_number(&mut text, at, 1, octet);
     octets::put_number(&mut file, 2 + at, 1, octet);
-    write_word(field(line, 1));
+    write_word(rt, field(line, 1))?;
     let n = write_into(
+        rt,
         first_8(&text, number_in_16(line, 2) as usize),
         first_16(&[100u16], number_in_16(line, 3) as usize),
         &[1u32],
         &[10u64],
         &mut out,
-    );
+    )?;
     if n != 0 {
-        write_same(first_8(&out, n), first_8(&file, end));
+        write_same(rt, first_8(&out, n), first_8(&file, end))?;
     }
-    write_word(b"\n");
+    write_word(rt, b"\n")
 }
 
 // Runs a case of kind `small`: no label, a few sizes and a few arrivals.
-fn run_small(line: &[u8]) {
+fn run_small(rt: &impl Print, line: &[u8]) -> io::Result<()> {
     let mut numbers = [0u32; 5];
     let mut times = [0u64; 5];
     let mut out = [OCTET; SMALL];
     let n = fill_32(field(line, 3), &mut numbers);
     let t = fill_64(field(line, 4), &mut times);
     let room = least(number_in_16(line, 5) as usize, SMALL);
-    write_word(field(line, 1));
+    write_word(rt, field(line, 1))?;
     write_into(
+        rt,
         b"",
         first_16(&[100u16; 5], number_in_16(line, 2) as usize),
         first_32(&numbers, n),
         first_64(&times, t),
         &mut out[0..room],
-    );
-    write_word(b"\n");
+    )?;
+    write_word(rt, b"\n")
 }
 
 // Runs the case of a line that writes a file.
-pub(crate) fn run(line: &[u8]) {
+pub(crate) fn run(rt: &impl Print, line: &[u8]) -> io::Result<()> {
     match first_octet(line) {
-        b'l' => run_lists(line),
-        b'o' => run_octet(line),
-        b's' => run_small(line),
-        _ => {}
+        b'l' => run_lists(rt, line),
+        b'o' => run_octet(rt, line),
+        b's' => run_small(rt, line),
+        _ => Ok(())
     }
 }

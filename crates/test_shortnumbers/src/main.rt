@@ -14,6 +14,7 @@ mod steps;
 
 use cases::fields::{field, first_octet};
 use cases::text::{INPUT_OCTETS, count, input, number, part};
+use std::io;
 
 // Whether the short numbers of a line have 8 bits, and not 10.
 pub(crate) fn of_eight_bits(line: &[u8]) -> bool {
@@ -21,21 +22,22 @@ pub(crate) fn of_eight_bits(line: &[u8]) -> bool {
 }
 
 // Runs the case of a line.
-fn run(line: &[u8]) {
+fn run(rt: &impl Print, line: &[u8]) -> io::Result<()> {
     match first_octet(line) {
-        b'l' => lists::run(line),
-        b'm' => lists::run_many(line),
-        b's' => steps::run(line),
-        b'n' => steps::run_next(line),
-        _ => {}
+        b'l' => lists::run(rt, line),
+        b'm' => lists::run_many(rt, line),
+        b's' => steps::run(rt, line),
+        b'n' => steps::run_next(rt, line),
+        _ => Ok(())
     }
 }
 
 // Runs the cases of all lines.
-fn main() {
+fn main(rt: HostRuntime) -> io::Result<()> {
     let mut room = [0u8; INPUT_OCTETS];
-    let text = input(&mut room);
+    let text = input(&rt, &mut room)?;
     for i in 0..count(text, b'\n') {
-        run(part(text, b'\n', i));
+        run(&rt, part(text, b'\n', i))?;
     }
+    Ok(())
 }

@@ -17,6 +17,7 @@ use cases::text::{INPUT_OCTETS, count, input, part};
 use lists::{write_lists, write_table};
 use sample::Layout;
 use sample_text::{ROOM, put_sample};
+use std::io;
 
 // The greatest length of the table and of each list.
 const MAX_LENGTH: usize = 4100;
@@ -38,18 +39,19 @@ fn length_in(line: &[u8], n: usize) -> usize
 }
 
 // Prints a case's name and its answer: the refusal, or K and A.
-fn write_layout(name: &[u8], layout: Layout) {
-    write_word(name);
+fn write_layout(rt: &impl Print, name: &[u8], layout: Layout) -> io::Result<()> {
+    write_word(rt, name)?;
     if layout.refusal != 0 {
-        write_number(b": refused ", layout.refusal as u64);
+        write_number(rt, b": refused ", layout.refusal as u64)
     } else {
-        write_number(b": K ", layout.sent as u64);
-        write_number(b" A ", layout.arrivals as u64);
+        write_number(rt, b": K ", layout.sent as u64)?;
+        write_number(rt, b" A ", layout.arrivals as u64)
     }
 }
 
 // Sweeps a file into the table and the lists; prints the answer and what they hold.
 fn sweep_into(
+    rt: &impl Print,
     line: &[u8],
     file: &[u8],
     table: &mut [u16],
@@ -57,22 +59,23 @@ fn sweep_into(
     positions: &mut [u32],
     extents: &mut [u32],
     lates: &mut [u64],
-) {
+) -> io::Result<()> {
     let layout = sweep::sweep(file, table, flags, positions, extents, lates);
-    write_layout(field(line, 1), layout);
+    write_layout(rt, field(line, 1), layout)?;
     write_lists(
+        rt,
         line,
         layout.arrivals as usize,
         flags,
         positions,
         extents,
         lates,
-    );
-    write_table(layout.refusal, table, number_in_16(line, 3));
+    )?;
+    write_table(rt, layout.refusal, table, number_in_16(line, 3))
 }
 
 // Sweeps a file into lists of the lengths that the line says.
-fn sweep_lists(line: &[u8], file: &[u8], table: &mut [u16]) {
+fn sweep_lists(rt: &impl Print, line: &[u8], file: &[u8], table: &mut [u16]) -> io::Result<()> {
     let mut flags = [FLAG; MAX_LENGTH];
     let mut positions = [NUMBER; MAX_LENGTH];
     let mut extents = [NUMBER; MAX_LENGTH];
@@ -82,6 +85,7 @@ fn sweep_lists(line: &[u8], file: &[u8], table: &mut [u16]) {
     let e = length_in(line, 7);
     let l = length_in(line, 8);
     sweep_into(
+        rt,
         line,
         file,
         table,
@@ -89,24 +93,25 @@ fn sweep_lists(line: &[u8], file: &[u8], table: &mut [u16]) {
         &mut positions[0..p],
         &mut extents[0..e],
         &mut lates[0..l],
-    );
+    )
 }
 
 // Runs the case of a line.
-fn run(line: &[u8]) {
+fn run(rt: &impl Print, line: &[u8]) -> io::Result<()> {
     let mut file = [0u8; ROOM];
     let n = put_sample(field(line, 2), &mut file);
     let before = number_in_16(line, 3);
     let mut table = [before; MAX_LENGTH];
     let m = length_in(line, 4);
-    sweep_lists(line, first_8(&file, n), &mut table[0..m]);
+    sweep_lists(rt, line, first_8(&file, n), &mut table[0..m])
 }
 
 // Runs the cases of all lines.
-fn main() {
+fn main(rt: HostRuntime) -> io::Result<()> {
     let mut room = [0u8; INPUT_OCTETS];
-    let text = input(&mut room);
+    let text = input(&rt, &mut room)?;
     for i in 0..count(text, b'\n') {
-        run(part(text, b'\n', i));
+        run(&rt, part(text, b'\n', i))?;
     }
+    Ok(())
 }

@@ -17,25 +17,27 @@ mod writing;
 
 use cases::fields::first_octet;
 use cases::text::{INPUT_OCTETS, count, input, part};
+use std::io;
 
 // Runs the case of a line.
-fn run(line: &[u8]) {
+fn run(rt: &impl Print, line: &[u8]) -> io::Result<()> {
     match first_octet(line) {
-        b'r' => short::run(line),
-        b's' => short::run(line),
-        b'l' => long::run_lines(line),
-        b'd' => long::run_digits(line),
-        b'w' => writing::run(line),
-        b'm' => writing::run_many(line),
-        _ => {}
+        b'r' => short::run(rt, line),
+        b's' => short::run(rt, line),
+        b'l' => long::run_lines(rt, line),
+        b'd' => long::run_digits(rt, line),
+        b'w' => writing::run(rt, line),
+        b'm' => writing::run_many(rt, line),
+        _ => Ok(())
     }
 }
 
 // Runs the cases of all lines.
-fn main() {
+fn main(rt: HostRuntime) -> io::Result<()> {
     let mut room = [0u8; INPUT_OCTETS];
-    let text = input(&mut room);
+    let text = input(&rt, &mut room)?;
     for i in 0..count(text, b'\n') {
-        run(part(text, b'\n', i));
+        run(&rt, part(text, b'\n', i))?;
     }
+    Ok(())
 }

@@ -4,12 +4,13 @@ use crate::lists::{NUMBER, TIME, import_into};
 use cases::fields::{field, number_in_32};
 use cases::lists::{first_8, least};
 use cases::text::number;
+use std::io;
 
 // The greatest length of a short list.
 const SHORT_LENGTH: usize = 5;
 
 // Runs the case of a line.
-pub(crate) fn run(line: &[u8]) {
+pub(crate) fn run(rt: &impl Print, line: &[u8]) -> io::Result<()> {
     let mut octets = [0u8; 128];
     let length = put_octets_for(field(line, 3), &mut octets);
     let mut numbers = [NUMBER; SHORT_LENGTH];
@@ -17,11 +18,12 @@ pub(crate) fn run(line: &[u8]) {
     let n = least(number_in_32(line, 4) as usize, SHORT_LENGTH);
     let t = least(number_in_32(line, 5) as usize, SHORT_LENGTH);
     import_into(
+        rt,
         number(field(line, 0), 1),
         field(line, 1),
         number_in_32(line, 2),
         first_8(&octets, length),
         &mut numbers[0..n],
         &mut times[0..t],
-    );
+    )
 }

@@ -8,37 +8,39 @@ use cases::lists::first_8;
 use cases::print::{write_number, write_word};
 use cases::text::{INPUT_OCTETS, count, input, part};
 use sample_text::{ROOM, put_sample};
+use std::io;
 use worse::{Link, compare, worse};
 
 // Compares two samples, and prints the refusal, which is the worse one, and its label.
-fn write_comparison<'a>(first: &'a [u8], second: &'a [u8]) {
+fn write_comparison<'a>(rt: &impl Print, first: &'a [u8], second: &'a [u8]) -> io::Result<()> {
     let comparison = compare(first, second);
-    write_number(b": refusal ", comparison.refusal as u64);
+    write_number(rt, b": refusal ", comparison.refusal as u64)?;
     let link = comparison.link;
     match link {
-        Link::Refused => write_word(b", none ["),
-        Link::First => write_word(b", first ["),
-        Link::Second => write_word(b", second ["),
+        Link::Refused => write_word(rt, b", none [")?,
+        Link::First => write_word(rt, b", first [")?,
+        Link::Second => write_word(rt, b", second [")?,
     }
-    write_word(worse(first, second));
-    write_word(b"]\n");
+    write_word(rt, worse(first, second))?;
+    write_word(rt, b"]\n")
 }
 
 // Runs the case of a line.
-fn run(line: &[u8]) {
+fn run(rt: &impl Print, line: &[u8]) -> io::Result<()> {
     let mut a = [0u8; ROOM];
     let mut b = [0u8; ROOM];
     let m = put_sample(field(line, 1), &mut a);
     let n = put_sample(field(line, 2), &mut b);
-    write_word(field(line, 0));
-    write_comparison(first_8(&a, m), first_8(&b, n));
+    write_word(rt, field(line, 0))?;
+    write_comparison(rt, first_8(&a, m), first_8(&b, n))
 }
 
 // Runs the cases of all lines.
-fn main() {
+fn main(rt: HostRuntime) -> io::Result<()> {
     let mut room = [0u8; INPUT_OCTETS];
-    let text = input(&mut room);
+    let text = input(&rt, &mut room)?;
     for i in 0..count(text, b'\n') {
-        run(part(text, b'\n', i));
+        run(&rt, part(text, b'\n', i))?;
     }
+    Ok(())
 }

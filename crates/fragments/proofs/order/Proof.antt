@@ -12,45 +12,45 @@ use borrow.Author.Rules.{rules}
 use Rattle.fragments.proofs.order.Statement.{statement}
 use Rattle.fragments.proofs.order.Tie as tie
 
-returns : tie.Need-returns
+returns : tie.Need-returns-then-refusal-ne0
 returns c =
-    let k = c.before.before.before.before in
-    let a = k.before.before.before.before.before.args in (
+    let k = c in
+    let a = k.args in (
       record {
-        refusal = c.before.order-refusal.ensures;
+        refusal = c.order_refusal-refusal.ensures;
         filled_flags = refused_over _
             (flags (pieces_of a.numbers.now a.times.now a.lengths.now a.mores.now a.offsets.now))
-            a.flagged.now c.if1.true;
+            a.flagged.now c.if-refusal-ne0.true;
         filled_usable =
             refused_over _ (usable (pieces_of a.numbers.now a.times.now a.lengths.now a.mores.now a.offsets.now))
-            a.used.now c.if1.true;
+            a.used.now c.if-refusal-ne0.true;
       },
       (whole-flags (pieces_of a.numbers.now a.times.now a.lengths.now a.mores.now a.offsets.now), flagged-as-given),
     )
 
-order-accepted-requires : tie.Need-order-accepted-requires
+order-accepted-requires : tie.Need-order_accepted-requires
 order-accepted-requires c κs =
-    let k = c.before.before.before.before.before.before in
-    let a = k.before.before.before.before.before.args in
+    let k = c in
+    let a = k.args in
     let k =
     accepted a.k a.numbers.now a.times.now a.lengths.now a.mores.now a.offsets.now (length a.flagged.now)
-    (length a.used.now) (sym c.before.before.before.order-refusal.ensures ∙ c.before.before.if1.false) in
+    (length a.used.now) (sym c.order_refusal-refusal.ensures ∙ c.if-refusal-ne0.false) in
     (k.sent, k.lists, k.numbers, k.many, k.flag_room, k.used_room)
 
-returns-2 : tie.Need-returns-2
+returns-2 : tie.Need-returns
 returns-2 c =
-    let r = c.before.before.before.before.before.before.before in
-    let k = r.before.before.before.before in
-    let a = k.before.before.before.before.before.args in (
+    let r = c in
+    let k = r in
+    let a = k.args in (
       record {
-        refusal = sym r.if1.false ∙ r.before.order-refusal.ensures;
-        filled_flags = c.before.before.before.before.order-accepted.ensures.0;
-        filled_usable = c.before.before.before.before.order-accepted.ensures.1;
+        refusal = sym r.if-refusal-ne0.false ∙ r.order_refusal-refusal.ensures;
+        filled_flags = c.order_accepted.ensures.0;
+        filled_usable = c.order_accepted.ensures.1;
       },
       (whole-flags (pieces_of a.numbers.now a.times.now a.lengths.now a.mores.now a.offsets.now), flagged-as-given),
     )
 
-pub order-spec : {M : Type 1} → statement M
-order-spec =
+pub order_spec : {M : Type 1} → statement M
+order_spec =
     tie.close
     (tie.spec (λ c κs. search rules) returns order-accepted-requires (λ c. search rules) (λ c. search rules) returns-2)

@@ -27,15 +27,15 @@ kept : (n : ℕ) (x old : List ℕ) → n ≤ length old → length x ≡ n → 
 kept n x old h e = let a = length-append x (drop n old) in let b = length-drop n old in omega (arith, a, b)
 
 -- the start, from where the marks are lent and from the first call
-abbrev entry : tie.After-marks → tie.Start
-entry c = let k = c.before.before.before.before in k.before.before.before.before
+abbrev entry : tie.After-marks-1 → tie.Start
+entry c = c.before.before.before.before.before.before.before.before
 
-abbrev noting : tie.After-note-arrivals-arg2 → tie.Start
-noting c = entry c.before.before.before
+abbrev noting : tie.After-note_arrivals-arg-2-1 → tie.Start
+noting c = c.before.before.before.before.before.before.before.before.before.before.before
 
 -- the first call, from the end
-abbrev noted : tie.After-slice-known6 → tie.After-note-arrivals
-noted c = let f = c.before.before.before.before in f.before.before.before.before.before
+abbrev noted : tie.After-slice_known-6-1 → tie.After-note_arrivals
+noted c = c.before.before.before.before.before.before.before.before.before
 
 -- the arrivals
 abbrev pieces : tie.Start → List Piece
@@ -51,25 +51,25 @@ of_marks s = length-take-le (length s.args.numbers.now) s.args.flagged.now s.req
 of_wholes : (s : tie.Start) → length (take (length s.args.numbers.now) s.args.used.now) ≡ length s.args.numbers.now
 of_wholes s = length-take-le (length s.args.numbers.now) s.args.used.now s.requires.5
 
-note-arrivals-requires : tie.Need-note-arrivals-requires
-note-arrivals-requires c κs = let s = noting c in let q = s.pre in (q.0, q.1, q.2, q.3, of_marks s, of_wholes s)
+note-arrivals-requires : tie.Need-note_arrivals-requires
+note-arrivals-requires c κs = let s = noting c in let q = s.requires in (q.0, q.1, q.2, q.3, of_marks s, of_wholes s)
 
-fill-flags-and-used-requires : tie.Need-fill-flags-and-used-requires
+fill-flags-and-used-requires : tie.Need-fill_flags_and_used-requires
 fill-flags-and-used-requires c κs =
-    let n = c.before.before.before.before.note-arrivals in
+    let n = c.note_arrivals in
     let s = noting c.before.before.before.before.before in
-    let q = s.pre in (
+    let q = s.requires in (
       q.1,
       within_more _ _ _ q.0 q.2,
       q.3,
-      n.auto.1.1.1.1.1.1.0 ∙ of_marks s,
-      n.auto.1.1.1.1.1.1.1.0 ∙ of_wholes s,
+      n.auto.marks ∙ of_marks s,
+      n.auto.wholes ∙ of_wholes s,
       n.ensures,
     )
 
 returns : tie.Need-returns
 returns c =
-    let f = c.before.before.before.before.fill-flags-and-used in
+    let f = c.fill_flags_and_used in
     let s = noting (noted c).before in (
       filled (length s.args.numbers.now) _ (flags (pieces s)) s.args.flagged.now (flags-many (pieces s) ∙ counted s)
           f.ensures.0,
@@ -77,25 +77,25 @@ returns c =
           f.ensures.1,
     )
 
-same_length : tie.Need-same-length
+same_length : tie.Need-shape_of-flagged
 same_length c =
-    let f = c.before.before.before.before.fill-flags-and-used in
+    let f = c.fill_flags_and_used in
     let s = noting (noted c).before in
-    kept (length s.args.numbers.now) f.new.1.1.1.1.1.0 s.args.flagged.now s.pre.4
+    kept (length s.args.numbers.now) f.new.flagged s.args.flagged.now s.requires.4
     (ap length f.ensures.0 ∙ flags-many (pieces s) ∙ counted s)
 
-same-length-2 : tie.Need-same-length-2
+same-length-2 : tie.Need-shape_of-used
 same-length-2 c =
-    let f = c.before.before.before.before.fill-flags-and-used in
+    let f = c.fill_flags_and_used in
     let s = noting (noted c).before in
-    kept (length s.args.numbers.now) f.new.1.1.1.1.1.1.0 s.args.used.now s.pre.5
+    kept (length s.args.numbers.now) f.new.used s.args.used.now s.requires.5
     (ap length f.ensures.1 ∙ usable-many (pieces s) ∙ counted s)
 
-pub order-accepted-spec : {M : Type 1} → statement M
-order-accepted-spec =
+pub order_accepted_spec : {M : Type 1} → statement M
+order_accepted_spec =
     tie.close
     (tie.spec
-    (λ c. c.before.before.before.before.before.before.before.requires.4)
+    (λ c. c.requires.4)
     (λ c. sym (of_marks (entry c)))
     (λ c. (entry c).requires.5)
     (λ c. sym (of_wholes (entry c.before)))

@@ -9,32 +9,32 @@ use Rattle.line_faults.specs.Faults.{has_byte_order_mark}
 use Rattle.line_faults.proofs.has_byte_order_mark.Statement.{statement}
 use Rattle.line_faults.proofs.has_byte_order_mark.Tie as tie
 
-returns : tie.Need-returns
+returns : tie.Need-returns-then-octet_at-ne239
 unfolding has_byte_order_mark
 returns c =
-    let l = c.before.before.before.args.line.now in
-    simp (ne_eqb (get_or l 0 0) 239 (λ e. c.if1.true (c.before.octet-at.ensures ∙ e)))
+    let l = c.args.line.now in
+    simp (ne_eqb (get_or l 0 0) 239 (λ e. c.if-octet_at-ne239.true (c.octet_at.ensures ∙ e)))
 
-returns-2 : tie.Need-returns-2
+returns-2 : tie.Need-returns-then-octet_at-ne187
 unfolding has_byte_order_mark
 returns-2 c =
-    let l = c.before.before.before.before.before.args.line.now in
+    let l = c.args.line.now in
     simp (
-      eq-eqb _ _ (sym c.before.before.before.octet-at.ensures ∙ c.before.before.if1.false),
-      ne_eqb (get_or l 1 0) 187 (λ e. c.if2.true (c.before.octet-at2.ensures ∙ e)),
+      eq-eqb _ _ (sym c.octet_at.ensures ∙ c.if-octet_at-ne239.false),
+      ne_eqb (get_or l 1 0) 187 (λ e. c.if-octet_at-ne187.true (c.octet_at-2.ensures ∙ e)),
     )
 
-returns-3 : tie.Need-returns-3
+returns-3 : tie.Need-returns
 unfolding has_byte_order_mark
 returns-3 c =
-    let l = c.before.before.before.before.before.before.args.line.now in
+    let l = c.args.line.now in
     let e : eqb (get_or l 2 0) 191 ≡ has_byte_order_mark l =
     simp (
-      eq-eqb _ _ (sym c.before.before.before.before.octet-at.ensures ∙ c.before.before.before.if1.false),
-      eq-eqb _ _ (sym c.before.before.octet-at2.ensures ∙ c.before.if2.false),
+      eq-eqb _ _ (sym c.octet_at.ensures ∙ c.if-octet_at-ne239.false),
+      eq-eqb _ _ (sym c.octet_at-2.ensures ∙ c.if-octet_at-ne187.false),
     ) in
-    ap (λ (o : ℕ). eqb o 191) c.octet-at3.ensures ∙ e
+    ap (λ (o : ℕ). eqb o 191) c.octet_at-3.ensures ∙ e
 
-pub has-byte-order-mark-spec : {M : Type 1} → statement M
-has-byte-order-mark-spec =
+pub has_byte_order_mark_spec : {M : Type 1} → statement M
+has_byte_order_mark_spec =
     tie.close (tie.spec (λ c κs. search rules) returns (λ c κs. search rules) returns-2 (λ c κs. search rules) returns-3)

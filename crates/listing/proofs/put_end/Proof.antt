@@ -5,11 +5,11 @@ use Rattle.listing.proofs.Parts.{read_length, copied}
 use Rattle.listing.proofs.put_end.Statement.{statement}
 use Rattle.listing.proofs.put_end.Tie as tie
 
-pub put-end-spec : {M : Type 1} → statement M
-put-end-spec =
+pub put_end_spec : {M : Type 1} → statement M
+put_end_spec =
     tie.close
     (tie.spec
     (λ c. search rules) (λ c κs. search rules) (λ c. search rules)
-    (λ c. read_length c.before.before.before.write-end.ensures)
+    (λ c. read_length c.write_end-n.ensures)
     (λ c κs. search rules) (λ c. search rules)
-    (λ c. copied _ _ c.before.before.before.before.before.before.write-end.ensures c.before.before.put-octets.ensures))
+    (λ c. copied _ _ c.write_end-n.ensures c.put_octets.ensures))

@@ -5,11 +5,11 @@ use Rattle.listing.proofs.Parts.{read_length, copied}
 use Rattle.listing.proofs.put_header.Statement.{statement}
 use Rattle.listing.proofs.put_header.Tie as tie
 
-pub put-header-spec : {M : Type 1} → statement M
-put-header-spec =
+pub put_header_spec : {M : Type 1} → statement M
+put_header_spec =
     tie.close
     (tie.spec
     (λ c. search rules) (λ c κs. search rules) (λ c. search rules)
-    (λ c. read_length c.before.before.before.write-header.ensures)
+    (λ c. read_length c.write_header-n.ensures)
     (λ c κs. search rules) (λ c. search rules)
-    (λ c. copied _ _ c.before.before.before.before.before.before.write-header.ensures c.before.before.put-octets.ensures))
+    (λ c. copied _ _ c.write_header-n.ensures c.put_octets.ensures))

@@ -10,28 +10,28 @@ use Rattle.listing.proofs.Parts.{whole, read_length, copied}
 use Rattle.listing.proofs.put_record.Statement.{statement}
 use Rattle.listing.proofs.put_record.Tie as tie
 
-write-record-requires : tie.Need-write-record-requires
-write-record-requires c κs = leb-true _ _ (sym c.before.before.has_room.ensures ∙ c.before.if1.true)
+write-record-requires : tie.Need-write_record-requires
+write-record-requires c κs = leb-true _ _ (sym c.has_room.ensures ∙ c.if-has_room.true)
 
-returns : tie.Need-returns
+returns : tie.Need-returns-then-has_room
 returns c =
-    let w = c.before.before.write-record.ensures in
-    let i = c.before.before.before.before in
-    let a = i.before.before.before.args in
-    let room : a.at + 93 ≤ length a.out.now = leb-true _ _ (sym i.before.has_room.ensures ∙ i.if1.true) in
+    let w = c.write_record.ensures in
+    let i = c in
+    let a = i.args in
+    let room : a.at + 93 ≤ length a.out.now = leb-true _ _ (sym i.has_room.ensures ∙ i.if-has_room.true) in
     (omega (arith, w.place), whole room w)
 
-slice-aggregate-put-octets : tie.Need-slice-aggregate-put-octets
-slice-aggregate-put-octets c = read_length c.before.before.before.write-record2.ensures
+slice-aggregate-put-octets : tie.Need-slice_bounds-put_octets-end
+slice-aggregate-put-octets c = read_length c.write_record-n.ensures
 
-returns-2 : tie.Need-returns-2
+returns-2 : tie.Need-returns
 returns-2 c =
-    let w = c.before.before.before.before.before.before in
-    let a = w.before.before.before.before.before.args in
-    copied a.at a.out.now w.write-record2.ensures c.before.before.put-octets.ensures
+    let w = c in
+    let a = w.args in
+    copied a.at a.out.now w.write_record-n.ensures c.put_octets.ensures
 
-pub put-record-spec : {M : Type 1} → statement M
-put-record-spec =
+pub put_record_spec : {M : Type 1} → statement M
+put_record_spec =
     tie.close
     (tie.spec
     (λ c κs. search rules)

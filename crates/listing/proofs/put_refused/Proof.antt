@@ -5,11 +5,11 @@ use Rattle.listing.proofs.Parts.{read_length, copied}
 use Rattle.listing.proofs.put_refused.Statement.{statement}
 use Rattle.listing.proofs.put_refused.Tie as tie
 
-pub put-refused-spec : {M : Type 1} → statement M
-put-refused-spec =
+pub put_refused_spec : {M : Type 1} → statement M
+put_refused_spec =
     tie.close
     (tie.spec
     (λ c. search rules) (λ c κs. search rules) (λ c. search rules)
-    (λ c. read_length c.before.before.before.write-refused.ensures)
+    (λ c. read_length c.write_refused-n.ensures)
     (λ c κs. search rules) (λ c. search rules)
-    (λ c. copied _ _ c.before.before.before.before.before.before.write-refused.ensures c.before.before.put-octets.ensures))
+    (λ c. copied _ _ c.write_refused-n.ensures c.put_octets.ensures))

@@ -6,21 +6,21 @@ use Rattle.listing.proofs.Parts.{weaken}
 use Rattle.listing.proofs.write_answer.Statement.{statement}
 use Rattle.listing.proofs.write_answer.Tie as tie
 
-returns : tie.Need-returns
+returns : tie.Need-returns-in-Duplicate
 returns c =
-    rw c.before.before.before.before.before.answer.given.1 (weaken 71 (omega arith) c.before.before.write-duplicate.ensures)
+    rw c.in-Duplicate.is (weaken 71 (omega arith) c.write_duplicate.ensures)
 
-returns-2 : tie.Need-returns-2
+returns-2 : tie.Need-returns-in-InOrder
 returns-2 c =
-    rw c.before.before.before.before.before.answer2.given.1 (weaken 71 (omega arith) c.before.before.write-in-order.ensures)
+    rw c.in-InOrder.is (weaken 71 (omega arith) c.write_in_order.ensures)
 
-returns-3 : tie.Need-returns-3
+returns-3 : tie.Need-returns-in-Reordered
 returns-3 c =
-    rw c.before.before.before.before.before.answer3.given.1
-    (weaken 71 (omega arith) c.before.before.write-reordered.ensures)
+    rw c.in-Reordered.is
+    (weaken 71 (omega arith) c.write_reordered.ensures)
 
-pub write-answer-spec : {M : Type 1} → statement M
-write-answer-spec =
+pub write_answer_spec : {M : Type 1} → statement M
+write_answer_spec =
     tie.close
     (tie.spec
     (λ c. search rules) (λ c κs. search rules) (λ c. search rules) (λ c κs. search rules) (λ c. search rules)

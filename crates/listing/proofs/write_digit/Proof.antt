@@ -8,8 +8,8 @@ use Rattle.listing.proofs.write_digit.Tie as tie
 returns : tie.Need-returns
 returns c = let a = c.args in one a.at (48 + a.v) a.out.now (search rules)
 
-pub write-digit-spec : {M : Type 1} → statement M
-write-digit-spec =
+pub write_digit_spec : {M : Type 1} → statement M
+write_digit_spec =
     tie.close
     (tie.spec
     (λ c. search rules) (λ c. search rules) (λ c. search rules) (λ c. search rules) (λ c. search rules)

@@ -7,11 +7,11 @@ use Rattle.listing.proofs.write_digits.Tie as tie
 
 returns : tie.Need-returns
 returns c =
-    let a = c.before.before.before.before.before.args in
-    let digits = c.before.before.put-decimal.ensures in
+    let a = c.args in
+    let digits = c.put_decimal.ensures in
     rw (digits.0, digits.1) (with-after a.at (decimal_of a.v) a.after a.out.now (search rules))
 
-pub write-digits-spec : {M : Type 1} → statement M
-write-digits-spec =
+pub write_digits_spec : {M : Type 1} → statement M
+write_digits_spec =
     tie.close
     (tie.spec (λ c κs. search rules) (λ c. search rules) (λ c. search rules) (λ c. search rules) (λ c. search rules) returns)

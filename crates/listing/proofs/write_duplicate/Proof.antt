@@ -9,14 +9,13 @@ use Rattle.listing.proofs.write_duplicate.Tie as tie
 
 returns : tie.Need-returns
 returns c =
-    let e2 = c.before.before in
-    let e1 = e2.before.before.before.before in
-    let s = e1.before.before.before.before in
-    two_fields 16 copy_word (number s.args.figures.first) s.requires e1.write_word.ensures e2.write-number.ensures
+    let e2 = c in
+    let e1 = e2 in
+    let s = e1 in
+    two_fields 16 copy_word (number s.args.figures.first) s.requires e1.write_word-first.ensures e2.write_number.ensures
 
-pub write-duplicate-spec : {M : Type 1} → statement M
-write-duplicate-spec =
+pub write_duplicate_spec : {M : Type 1} → statement M
+write_duplicate_spec =
     tie.close
-    (tie.spec
-    (λ c. search rules) (λ c κs. search rules) (λ c κs. search rules) (λ c. search rules)
+    (tie.spec (λ c κs. search rules) (λ c κs. search rules) (λ c. search rules)
     returns)

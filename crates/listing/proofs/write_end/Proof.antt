@@ -13,23 +13,22 @@ use Rattle.listing.proofs.write_end.Tie as tie
 returns : tie.Need-returns
 unfolding end_line
 returns c =
-    let e7 = c.before.before in
-    let e6 = e7.before.before.before.before in
-    let e5 = e6.before.before.before.before in
-    let e4 = e5.before.before.before.before in
-    let e3 = e4.before.before.before.before in
-    let e2 = e3.before.before.before.before in
-    let e1 = e2.before.before.before.before in
-    let s = e1.before.before.before.before.before in
+    let e7 = c in
+    let e6 = e7 in
+    let e5 = e6 in
+    let e4 = e5 in
+    let e3 = e4 in
+    let e2 = e3 in
+    let e1 = e2 in
+    let s = e1 in
     let h : s.args.at ≤ length s.args.out.now = omega arith in
     simp append_assoc (simp append_assoc at (then h (then h (then h
-    (then h (then h (then h e1.write_word.ensures e2.write-number.ensures) e3.write-number2.ensures)
-    e4.write-number3.ensures) e5.write-number4.ensures) e6.write-number5.ensures) e7.write-number6.ensures))
+    (then h (then h (then h e1.write_word-arrived.ensures e2.write_number-reordered.ensures) e3.write_number-duplicates.ensures)
+    e4.write_number-closed.ensures) e5.write_number-squares.ensures) e6.write_number-current.ensures) e7.write_number.ensures))
 
-pub write-end-spec : {M : Type 1} → statement M
-write-end-spec =
+pub write_end_spec : {M : Type 1} → statement M
+write_end_spec =
     tie.close
-    (tie.spec
-    (λ c. search rules) (λ c κs. search rules) (λ c κs. search rules) (λ c κs. search rules) (λ c κs. search rules)
+    (tie.spec (λ c κs. search rules) (λ c κs. search rules) (λ c κs. search rules) (λ c κs. search rules)
     (λ c κs. search rules) (λ c κs. search rules) (λ c κs. search rules) (λ c. search rules)
     returns)

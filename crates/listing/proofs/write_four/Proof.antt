@@ -7,9 +7,9 @@ use Rattle.listing.proofs.write_four.Tie as tie
 
 returns : tie.Need-returns
 returns c =
-    let e2 = c.before.before in
-    let e1 = e2.before.before.before.before in
-    then-within 4 e1.before.before.before.requires.0 e1.write-pair.ensures e2.write-pair2.ensures
+    let e2 = c in
+    let e1 = e2 in
+    then-within 4 e1.requires.0 e1.write_pair-half.ensures e2.write_pair.ensures
 
-pub write-four-spec : {M : Type 1} → statement M
-write-four-spec = tie.close (tie.spec (λ c κs. search rules) (λ c κs. search rules) (λ c. search rules) returns)
+pub write_four_spec : {M : Type 1} → statement M
+write_four_spec = tie.close (tie.spec (λ c κs. search rules) (λ c κs. search rules) (λ c. search rules) returns)

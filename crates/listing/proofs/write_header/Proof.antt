@@ -13,19 +13,18 @@ use Rattle.listing.proofs.write_header.Tie as tie
 returns : tie.Need-returns
 unfolding header_line
 returns c =
-    let e4 = c.before.before in
-    let e3 = e4.before.before.before.before in
-    let e2 = e3.before.before.before.before.before in
-    let e1 = e2.before.before.before.before in
-    let s = e1.before.before.before.before in
+    let e4 = c in
+    let e3 = e4 in
+    let e2 = e3 in
+    let e1 = e2 in
+    let s = e1 in
     let h : s.args.at ≤ length s.args.out.now = omega arith in
-    simp append_assoc (simp append_assoc at (then h (then h (then h e1.write_word.ensures e2.write-number.ensures)
-    e3.write-word2.ensures) e4.write-number2.ensures))
+    simp append_assoc (simp append_assoc at (then h (then h (then h e1.write_word-sent.ensures e2.write_number-word.ensures)
+    e3.write_word-arrivals.ensures) e4.write_number.ensures))
 
-pub write-header-spec : {M : Type 1} → statement M
-write-header-spec =
+pub write_header_spec : {M : Type 1} → statement M
+write_header_spec =
     tie.close
-    (tie.spec
-    (λ c. search rules) (λ c κs. search rules) (λ c κs. search rules) (λ c. search rules) (λ c κs. search rules)
+    (tie.spec (λ c κs. search rules) (λ c κs. search rules) (λ c κs. search rules)
     (λ c κs. search rules) (λ c. search rules)
     returns)

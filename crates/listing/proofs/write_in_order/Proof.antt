@@ -11,17 +11,16 @@ use Rattle.listing.proofs.write_in_order.Tie as tie
 
 returns : tie.Need-returns
 returns c =
-    let e3 = c.before.before in
-    let e2 = e3.before.before.before.before in
-    let e1 = e2.before.before.before.before in
-    let s = e1.before.before.before.before in
+    let e3 = c in
+    let e2 = e3 in
+    let e1 = e2 in
+    let s = e1 in
     let h : s.args.at ≤ length s.args.out.now = omega arith in
-    simp append_assoc (simp append_assoc at (then h (then h e1.write_word.ensures e2.write-number.ensures)
-    e3.write-number2.ensures))
+    simp append_assoc (simp append_assoc at (then h (then h e1.write_word-position.ensures e2.write_number-jump.ensures)
+    e3.write_number.ensures))
 
-pub write-in-order-spec : {M : Type 1} → statement M
-write-in-order-spec =
+pub write_in_order_spec : {M : Type 1} → statement M
+write_in_order_spec =
     tie.close
-    (tie.spec
-    (λ c. search rules) (λ c κs. search rules) (λ c κs. search rules) (λ c κs. search rules) (λ c. search rules)
+    (tie.spec (λ c κs. search rules) (λ c κs. search rules) (λ c κs. search rules) (λ c. search rules)
     returns)

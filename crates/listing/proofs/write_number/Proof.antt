@@ -10,13 +10,13 @@ use Rattle.listing.proofs.write_number.Tie as tie
 
 returns : tie.Need-returns
 returns c =
-    let s = c.before.before.before.before.before in
+    let s = c in
     let h : s.args.at ≤ length s.args.out.now = omega arith in
-    then h c.before.before.write-up-to-ten.ensures (one c.before.before.write-up-to-ten.result s.args.after
-    c.before.before.write-up-to-ten.new.0 (search rules))
+    then h c.write_up_to_ten-end.ensures (one c.write_up_to_ten-end.result s.args.after
+    c.write_up_to_ten-end.new.out (search rules))
 
-pub write-number-spec : {M : Type 1} → statement M
-write-number-spec =
+pub write_number_spec : {M : Type 1} → statement M
+write_number_spec =
     tie.close
     (tie.spec
     (λ c κs. search rules) (λ c. search rules) (λ c. search rules) (λ c. search rules)

@@ -7,9 +7,9 @@ use Rattle.listing.proofs.write_pair.Tie as tie
 
 returns : tie.Need-returns
 returns c =
-    let e2 = c.before.before in
-    let e1 = e2.before.before.before.before in
-    then-within 2 e1.before.before.before.requires.0 e1.write-digit.ensures e2.write-digit2.ensures
+    let e2 = c in
+    let e1 = e2 in
+    then-within 2 e1.requires.0 e1.write_digit-second.ensures e2.write_digit.ensures
 
-pub write-pair-spec : {M : Type 1} → statement M
-write-pair-spec = tie.close (tie.spec (λ c κs. search rules) (λ c κs. search rules) (λ c. search rules) returns)
+pub write_pair_spec : {M : Type 1} → statement M
+write_pair_spec = tie.close (tie.spec (λ c κs. search rules) (λ c κs. search rules) (λ c. search rules) returns)

@@ -10,16 +10,16 @@ use Rattle.listing.proofs.write_record.Tie as tie
 
 returns : tie.Need-returns
 returns c =
-    let e3 = c.before.before in
-    let e2 = e3.before.before.before.before in
-    let e1 = e2.before.before.before.before in
-    let a = e1.before.before.before.args in
+    let e3 = c in
+    let e2 = e3 in
+    let e1 = e2 in
+    let a = e1.args in
     let h : a.at ≤ length a.out.now = omega arith in
     rw (record-parts a.«record» a.number a.answer)
-    (then h (then h e1.write-number.ensures e2.write-number2.ensures) e3.write-answer.ensures)
+    (then h (then h e1.write_number-second.ensures e2.write_number-rest.ensures) e3.write_answer.ensures)
 
-pub write-record-spec : {M : Type 1} → statement M
-write-record-spec =
+pub write_record_spec : {M : Type 1} → statement M
+write_record_spec =
     tie.close
     (tie.spec
     (λ c κs. search rules) (λ c κs. search rules) (λ c κs. search rules) (λ c. search rules)

@@ -10,14 +10,13 @@ use Rattle.listing.proofs.write_refused.Tie as tie
 returns : tie.Need-returns
 unfolding refused_line
 returns c =
-    let e2 = c.before.before in
-    let e1 = e2.before.before.before.before in
-    let s = e1.before.before.before.before in
-    two_fields 19 refused_word (number s.args.refusal) s.requires e1.write_word.ensures e2.write-number.ensures
+    let e2 = c in
+    let e1 = e2 in
+    let s = e1 in
+    two_fields 19 refused_word (number s.args.refusal) s.requires e1.write_word-number.ensures e2.write_number.ensures
 
-pub write-refused-spec : {M : Type 1} → statement M
-write-refused-spec =
+pub write_refused_spec : {M : Type 1} → statement M
+write_refused_spec =
     tie.close
-    (tie.spec
-    (λ c. search rules) (λ c κs. search rules) (λ c κs. search rules) (λ c. search rules)
+    (tie.spec (λ c κs. search rules) (λ c κs. search rules) (λ c. search rules)
     returns)

@@ -11,22 +11,21 @@ use Rattle.listing.proofs.write_reordered.Tie as tie
 
 returns : tie.Need-returns
 returns c =
-    let e6 = c.before.before in
-    let e5 = e6.before.before.before.before in
-    let e4 = e5.before.before.before.before in
-    let e3 = e4.before.before.before.before in
-    let e2 = e3.before.before.before.before in
-    let e1 = e2.before.before.before.before in
-    let s = e1.before.before.before.before in
+    let e6 = c in
+    let e5 = e6 in
+    let e4 = e5 in
+    let e3 = e4 in
+    let e2 = e3 in
+    let e1 = e2 in
+    let s = e1 in
     let h : s.args.at ≤ length s.args.out.now = omega arith in
     simp append_assoc (simp append_assoc at (then h (then h (then h
-    (then h (then h e1.write_word.ensures e2.write-number.ensures) e3.write-number2.ensures)
-    e4.write-late-time.ensures) e5.write-number3.ensures) e6.write-number4.ensures))
+    (then h (then h e1.write_word-position.ensures e2.write_number-extent.ensures) e3.write_number-time.ensures)
+    e4.write_late_time-offset.ensures) e5.write_number-largest.ensures) e6.write_number.ensures))
 
-pub write-reordered-spec : {M : Type 1} → statement M
-write-reordered-spec =
+pub write_reordered_spec : {M : Type 1} → statement M
+write_reordered_spec =
     tie.close
-    (tie.spec
-    (λ c. search rules) (λ c κs. search rules) (λ c κs. search rules) (λ c κs. search rules) (λ c κs. search rules)
+    (tie.spec (λ c κs. search rules) (λ c κs. search rules) (λ c κs. search rules) (λ c κs. search rules)
     (λ c κs. search rules) (λ c κs. search rules) (λ c. search rules)
     returns)

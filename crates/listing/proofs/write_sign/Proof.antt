@@ -8,28 +8,28 @@ use Rattle.listing.proofs.Parts.{nothing, one}
 use Rattle.listing.proofs.write_sign.Statement.{statement}
 use Rattle.listing.proofs.write_sign.Tie as tie
 
-enum_told : tie.Need-enum-told
+enum_told : tie.Need-enum_told-1
 enum_told c = search rules
 
-returns : tie.Need-returns
+returns : tie.Need-returns-in_default
 returns c =
-    let a = c.before.before.args in
-    rw c.enum_told.given.1 (nothing a.at a.out.now)
+    let a = c.args in
+    rw c.in_default.is (nothing a.at a.out.now)
 
-returns-2 : tie.Need-returns-2
+returns-2 : tie.Need-returns-then-t-gt0
 returns-2 c =
-    let known = c.before.before.late.given in
-    let a = c.before.before.before.before.args in
-    rw (known.1, lt-ltb 0 known.0.0 (omega (arith, c.if1.true))) (one a.at minus a.out.now (search rules))
+    let known = c.in-Before in
+    let a = c.args in
+    rw (known.is, lt-ltb 0 known.t (omega (arith, c.if-t-gt0.true))) (one a.at minus a.out.now (search rules))
 
-returns-3 : tie.Need-returns-3
+returns-3 : tie.Need-returns
 returns-3 c =
-    let known = c.before.before.late.given in
-    let a = c.before.before.before.before.args in
-    rw (known.1, le-ltb 0 known.0.0 (omega (arith, c.if1.false))) (nothing a.at a.out.now)
+    let known = c.in-Before in
+    let a = c.args in
+    rw (known.is, le-ltb 0 known.t (omega (arith, c.if-t-gt0.false))) (nothing a.at a.out.now)
 
-pub write-sign-spec : {M : Type 1} → statement M
-write-sign-spec =
+pub write_sign_spec : {M : Type 1} → statement M
+write_sign_spec =
     tie.close
     (tie.spec
     (λ c. search rules)

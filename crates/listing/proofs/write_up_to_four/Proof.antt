@@ -11,42 +11,42 @@ use Rattle.listing.proofs.Parts.{named, then}
 use Rattle.listing.proofs.write_up_to_four.Statement.{statement}
 use Rattle.listing.proofs.write_up_to_four.Tie as tie
 
-returns : tie.Need-returns
+returns : tie.Need-returns-then-v-lt10
 returns c =
-    let s = c.before.before.before.before.before.before in
+    let s = c in
     let v = s.args.v in
-    named 4 (sym (one-digit v c.before.before.before.before.if1.true)) (at_most 4 v (omega arith) (omega (arith, s.requires.1)))
-    c.before.before.write-digit.ensures
+    named 4 (sym (one-digit v c.if-v-lt10.true)) (at_most 4 v (omega arith) (omega (arith, s.requires.1)))
+    c.write_digit.ensures
 
-returns-2 : tie.Need-returns-2
+returns-2 : tie.Need-returns-then-v-lt100
 returns-2 c =
-    let i = c.before.before.before.before in
-    let s = i.before.before.before in
+    let i = c in
+    let s = i in
     let v = s.args.v in
-    named 4 (sym (two_digits v i.before.if1.false i.if2.true)) (at_most 4 v (omega arith) (omega (arith, s.requires.1)))
-    c.before.before.write-pair.ensures
+    named 4 (sym (two_digits v i.if-v-lt10.false i.if-v-lt100.true)) (at_most 4 v (omega arith) (omega (arith, s.requires.1)))
+    c.write_pair.ensures
 
-returns-3 : tie.Need-returns-3
+returns-3 : tie.Need-returns-then-v-lt1000
 returns-3 c =
-    let e2 = c.before.before in
-    let e1 = e2.before.before.before.before in
-    let i = e1.before.before in
-    let s = i.before.before.before.before in
+    let e2 = c in
+    let e1 = e2 in
+    let i = e1 in
+    let s = i in
     let v = s.args.v in
     let h : s.args.at ≤ length s.args.out.now = omega arith in
-    named 4 (sym (three-digits v i.before.if2.false i.if3.true)) (at_most 4 v (omega arith) (omega (arith, s.requires.1)))
-    (then h e1.write-digit2.ensures e2.write-pair2.ensures)
+    named 4 (sym (three-digits v i.if-v-lt100.false i.if-v-lt1000.true)) (at_most 4 v (omega arith) (omega (arith, s.requires.1)))
+    (then h e1.write_digit-rest.ensures e2.write_pair-then-v-lt1000.ensures)
 
-returns-4 : tie.Need-returns-4
+returns-4 : tie.Need-returns
 returns-4 c =
-    let i = c.before.before.before.before in
-    let s = i.before.before.before.before in
+    let i = c in
+    let s = i in
     let v = s.args.v in
-    named 4 (sym (four-digits v i.if3.false s.requires.1)) (at_most 4 v (omega arith) (omega (arith, s.requires.1)))
-    c.before.before.write-four.ensures
+    named 4 (sym (four-digits v i.if-v-lt1000.false s.requires.1)) (at_most 4 v (omega arith) (omega (arith, s.requires.1)))
+    c.write_four.ensures
 
-pub write-up-to-four-spec : {M : Type 1} → statement M
-write-up-to-four-spec =
+pub write_up_to_four_spec : {M : Type 1} → statement M
+write_up_to_four_spec =
     tie.close
     (tie.spec
     (λ c κs. search rules) (λ c. search rules)

@@ -6,9 +6,9 @@ use Rattle.listing.proofs.write_word.Tie as tie
 
 returns : tie.Need-returns
 returns c =
-    let a = c.before.before.before.before.before.before.args in
-    rw c.before.before.put-octets.ensures (with-after a.at a.word.now a.after a.out.now (search rules))
+    let a = c.args in
+    rw c.put_octets.ensures (with-after a.at a.word.now a.after a.out.now (search rules))
 
-pub write-word-spec : {M : Type 1} → statement M
-write-word-spec =
+pub write_word_spec : {M : Type 1} → statement M
+write_word_spec =
     tie.close (tie.spec (λ c κs. search rules) (λ c. search rules) (λ c. search rules) (λ c. search rules) (λ c. search rules) returns)

@@ -9,7 +9,7 @@ use Rattle.metrics.proofs.accommodated.Tie as tie
 returns : tie.Need-returns
 unfolding sample_accommodated
 returns c =
-    rw (c.before.before.checked-layout.ensures.laid, c.needs-of.ensures.many, first_count _ _ _ _ _ _ c.needs-of.ensures)
+    rw (c.checked_layout-layout.ensures.laid, c.needs_of-needs.ensures.many, first_count _ _ _ _ _ _ c.needs_of-needs.ensures)
 
-pub accommodated-spec : {M : Type 1} → statement M
-accommodated-spec = tie.close (tie.spec (λ c κs. search rules) (λ c κs. search rules) (λ c. search rules) returns)
+pub accommodated_spec : {M : Type 1} → statement M
+accommodated_spec = tie.close (tie.spec (λ c κs. search rules) (λ c κs. search rules) (λ c. search rules) returns)

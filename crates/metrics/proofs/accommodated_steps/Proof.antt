@@ -7,19 +7,19 @@ use Rattle.metrics.proofs.Accommodation.{steps-few, steps-made}
 use Rattle.metrics.proofs.accommodated_steps.Statement.{statement}
 use Rattle.metrics.proofs.accommodated_steps.Tie as tie
 
-sum-up-requires : tie.Need-sum-up-requires
+sum-up-requires : tie.Need-sum_up-requires
 sum-up-requires c κs =
-    let n = c.before.needs-of.ensures in
-    (n.places, steps-few _ _ c.before.before.before.checked-layout.ensures _ _ _ _ _ n)
+    let n = c.needs_of-needs.ensures in
+    (n.places, steps-few _ _ c.checked_layout-layout.ensures _ _ _ _ _ n)
 
 returns : tie.Need-returns
 unfolding sample_steps
 returns c =
-    let n = c.before.before.needs-of.ensures in
-    let s = c.sum-up.ensures in
-    let laid = c.before.before.before.before.checked-layout.ensures.laid in
+    let n = c.needs_of-needs.ensures in
+    let s = c.sum_up.ensures in
+    let laid = c.checked_layout-layout.ensures.laid in
     let made = steps-made _ _ _ _ _ s.0 (λ j few. s.1 j few ∙ n.at j few) in
     λ i. record { refusal = (laid i).refusal; arrived = n.many i; greatest = n.most i; counts = made i }
 
-pub accommodated-steps-spec : {M : Type 1} → statement M
-accommodated-steps-spec = tie.close (tie.spec (λ c κs. search rules) (λ c κs. search rules) sum-up-requires returns)
+pub accommodated_steps_spec : {M : Type 1} → statement M
+accommodated_steps_spec = tie.close (tie.spec (λ c κs. search rules) (λ c κs. search rules) sum-up-requires returns)

@@ -13,23 +13,23 @@ use Rattle.metrics.proofs.Listed.{sample-within}
 use Rattle.metrics.proofs.agreement.Statement.{statement}
 use Rattle.metrics.proofs.agreement.Tie as tie
 
-room : (c : tie.After-checked-layout) → length (sample_text (decode c.before.before.before.args.file.now)) ≤ listing_octets
+room : (c : tie.After-checked_layout-layout) → length (sample_text (decode c.args.file.now)) ≤ listing_octets
 room c =
-    let file = c.before.before.before.args.file.now in
-    sample-within file c.checked-layout.result c.checked-layout.ensures
-    (below-fits w8 file c.before.before.shared-slice-known.given)
+    let file = c.args.file.now in
+    sample-within file c.checked_layout-layout.result c.checked_layout-layout.ensures
+    (below-fits w8 file c.shared_slice_known-1.given)
 
-returns : tie.Need-returns
-returns c = (agreed-refused _ _ c.before.before.checked-layout.ensures _ c.if1.true, room c.before.before)
+returns : tie.Need-returns-then-layout-ne-NONE
+returns c = (agreed-refused _ _ c.checked_layout-layout.ensures _ c.if-layout-ne-NONE.true, room c.before.before)
 
-returns-2 : tie.Need-returns-2
+returns-2 : tie.Need-returns
 returns-2 c =
-    let l = c.before.before.before.before in (
-      agreed-accepted _ _ l.checked-layout.ensures _ c.before.before.if1.false _ c.before.compare-listing.ensures _
+    let l = c in (
+      agreed-accepted _ _ l.checked_layout-layout.ensures _ c.if-layout-ne-NONE.false _ c.compare_listing-part.ensures _
           c.same_text.ensures,
-      room l,
+      room l.before.before.before.before,
     )
 
-pub agreement-spec : {M : Type 1} → statement M
-agreement-spec =
+pub agreement_spec : {M : Type 1} → statement M
+agreement_spec =
     tie.close (tie.spec (λ c κs. search rules) returns (λ c κs. search rules) (λ c κs. search rules) returns-2)

@@ -14,13 +14,13 @@ use Rattle.metrics.proofs.answer.Tie as tie
 
 returns : tie.Need-returns
 returns c =
-    let e = c.answer-of.ensures in
-    let file = c.before.before.before.args.file.now in
-    let o = below-fits w8 file c.before.before.shared-slice-known.given in
+    let e = c.answer_of.ensures in
+    let file = c.args.file.now in
+    let o = below-fits w8 file c.shared_slice_known-1.given in
     let b =
-    answer-bounded file c.before.checked-layout.result c.before.checked-layout.ensures o
-    c.before.before.before.args.asked in
+    answer-bounded file c.checked_layout-layout.result c.checked_layout-layout.ensures o
+    c.args.asked in
     (e, (cases-hold, (subst (λ (r : RecordAnswer). FiguresBounded r.answer) (sym e) b, (reordered-found, offsets-bounded))))
 
-pub answer-spec : {M : Type 1} → statement M
-answer-spec = tie.close (tie.spec (λ c κs. search rules) (λ c κs. search rules) returns)
+pub answer_spec : {M : Type 1} → statement M
+answer_spec = tie.close (tie.spec (λ c κs. search rules) (λ c κs. search rules) returns)

@@ -6,7 +6,7 @@ use Rattle.metrics.proofs.counts.Tie as tie
 
 returns : tie.Need-returns
 unfolding sample_counts
-returns c = rw (c.before.checked-layout.ensures.laid, c.Counts-of.ensures)
+returns c = rw (c.checked_layout-layout.ensures.laid, c.counts_of.ensures)
 
-pub counts-spec : {M : Type 1} → statement M
-counts-spec = tie.close (tie.spec (λ c κs. search rules) (λ c κs. search rules) returns)
+pub counts_spec : {M : Type 1} → statement M
+counts_spec = tie.close (tie.spec (λ c κs. search rules) (λ c κs. search rules) returns)

@@ -8,7 +8,7 @@ use Rattle.metrics.proofs.degree.Tie as tie
 
 returns : tie.Need-returns
 unfolding degree_counts sample_degree degree share n_reordered ratio_by
-returns c = rw (c.ratio-of.ensures, c.before.n-reordered.ensures)
+returns c = rw (c.ratio_of.ensures, c.n_reordered-c.ensures)
 
-pub degree-spec : {M : Type 1} → statement M
-degree-spec = tie.close (tie.spec (λ c κs. search rules) (λ c κs. search rules) returns)
+pub degree_spec : {M : Type 1} → statement M
+degree_spec = tie.close (tie.spec (λ c κs. search rules) (λ c κs. search rules) returns)

@@ -9,12 +9,12 @@ returns : tie.Need-returns
 unfolding sample_needs
 returns c =
     rw (
-      c.before.before.before.checked-layout.ensures.laid,
-      c.before.before.greatest-need.ensures,
-      c.before.greatest-need2.ensures,
-      c.greatest-need3.ensures,
+      c.checked_layout-layout.ensures.laid,
+      c.greatest_need.ensures,
+      c.greatest_need-2.ensures,
+      c.greatest_need-3.ensures,
     )
 
-pub greatest-needs-spec : {M : Type 1} → statement M
-greatest-needs-spec =
+pub greatest_needs_spec : {M : Type 1} → statement M
+greatest_needs_spec =
     tie.close (tie.spec (λ c κs. search rules) (λ c κs. search rules) (λ c κs. search rules) (λ c κs. search rules) returns)

@@ -18,24 +18,24 @@ use Rattle.metrics.proofs.listing.Statement.{statement}
 use Rattle.metrics.proofs.listing.Tie as tie
 
 -- the theorems that it carries: any listing has room in LISTING_OCTETS, the example, and moving the clock
-carries : (c : tie.After-checked-layout)
-    → (length (sample_text (decode c.before.before.before.args.file.now)) ≤ listing_octets)
-    × (ExampleHolds × ClockMoved c.before.before.before.args.file.now)
+carries : (c : tie.After-checked_layout-layout)
+    → (length (sample_text (decode c.args.file.now)) ≤ listing_octets)
+    × (ExampleHolds × ClockMoved c.args.file.now)
 carries c =
-    let file = c.before.before.before.args.file.now in
-    let o = below-fits w8 file c.before.before.shared-slice-known.given in
-    (sample-within file c.checked-layout.result c.checked-layout.ensures o, (example-holds, clock-moved file o))
+    let file = c.args.file.now in
+    let o = below-fits w8 file c.shared_slice_known-1.given in
+    (sample-within file c.checked_layout-layout.result c.checked_layout-layout.ensures o, (example-holds, clock-moved file o))
 
-returns : tie.Need-returns
-returns c = (nothing_written _ _ _ _ c.before.listing-refusal.ensures c.if1.true, carries c.before.before)
+returns : tie.Need-returns-then-refusal-ne-NONE
+returns c = (nothing_written _ _ _ _ c.listing_refusal-refusal.ensures c.if-refusal-ne-NONE.true, carries c.before.before)
 
-returns-2 : tie.Need-returns-2
+returns-2 : tie.Need-returns
 returns-2 c =
-    let r = c.before.before.before.before.before in
-    let e = c.before.before.write-listing.ensures in
-    (whole-written _ _ _ _ r.listing-refusal.ensures c.before.before.before.before.if1.false e.0 e.1, carries r.before)
+    let r = c in
+    let e = c.write_listing.ensures in
+    (whole-written _ _ _ _ r.listing_refusal-refusal.ensures c.if-refusal-ne-NONE.false e.0 e.1, carries r.before.before.before.before.before.before)
 
-pub listing-spec : {M : Type 1} → statement M
-listing-spec =
+pub listing_spec : {M : Type 1} → statement M
+listing_spec =
     tie.close
     (tie.spec (λ c κs. search rules) (λ c κs. search rules) returns (λ c κs. search rules) (λ c. search rules) returns-2)

@@ -9,19 +9,19 @@ use Rattle.metrics.specs.Figures.{degree_most}
 use Rattle.metrics.proofs.n_reordered.Statement.{statement}
 use Rattle.metrics.proofs.n_reordered.Tie as tie
 
-returns : tie.Need-returns
+returns : tie.Need-returns-then-refusal-ne-NONE
 returns c =
-    degree-answered-refused _ _ _ (laid-refusal _ _ c.before.before.checked-layout.ensures _ 1 degree_most
-    c.before.before.before.before.args.n c.before.asked-refusal.ensures) c.if1.true
+    degree-answered-refused _ _ _ (laid-refusal _ _ c.checked_layout-layout.ensures _ 1 degree_most
+    c.args.n c.asked_refusal-refusal.ensures) c.if-refusal-ne-NONE.true
 
-returns-2 : tie.Need-returns-2
+returns-2 : tie.Need-returns
 unfolding shares_of
 returns-2 c =
-    let s = c.shares_of.ensures in
-    degree-answered _ _ _ (laid-refusal _ _ c.before.before.before.checked-layout.ensures _ 1 degree_most
-    c.before.before.before.before.before.args.n c.before.before.asked-refusal.ensures) c.before.if1.false _ _
+    let s = c.shares_of-shares.ensures in
+    degree-answered _ _ _ (laid-refusal _ _ c.checked_layout-layout.ensures _ 1 degree_most
+    c.args.n c.asked_refusal-refusal.ensures) c.if-refusal-ne-NONE.false _ _
     (ap (λ (t : Shares). t.low) s) (ap (λ (t : Shares). t.whole) s)
 
-pub n-reordered-spec : {M : Type 1} → statement M
-n-reordered-spec =
+pub n_reordered_spec : {M : Type 1} → statement M
+n_reordered_spec =
     tie.close (tie.spec (λ c κs. search rules) (λ c κs. search rules) returns (λ c κs. search rules) returns-2)

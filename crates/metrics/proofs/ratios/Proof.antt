@@ -10,8 +10,8 @@ use Rattle.metrics.proofs.ratios.Tie as tie
 returns : tie.Need-returns
 unfolding sample_ratios ratios_by ratios share n_reordered shares_of
 returns c =
-    rw (c.ratios-of.ensures, c.before.shares_of.ensures, c.before.before.checked-layout.ensures.laid)
+    rw (c.ratios_of.ensures, c.shares_of-shares.ensures, c.checked_layout-layout.ensures.laid)
 
-pub ratios-spec : {M : Type 1} → statement M
-ratios-spec =
+pub ratios_spec : {M : Type 1} → statement M
+ratios_spec =
     tie.close (tie.spec (λ c κs. search rules) (λ c κs. search rules) (λ c κs. search rules) returns)

@@ -10,35 +10,35 @@ use Rattle.metrics.proofs.record_gaps.Statement.{statement}
 use Rattle.metrics.proofs.record_gaps.Tie as tie
 
 -- after the check: the file is laid out, and accepted where nothing of it is refused
-accepted-of : (q : tie.After-checked-layout) → q.checked-layout.result.refusal ≡ 0
-    → decode q.before.before.before.args.file.now ≡ accepted (sample_of (decode q.before.before.before.args.file.now))
-accepted-of q z = found-sample _ _ q.checked-layout.ensures.laid z
+accepted-of : (q : tie.After-checked_layout-layout) → q.checked_layout-layout.result.refusal ≡ 0
+    → decode q.args.file.now ≡ accepted (sample_of (decode q.args.file.now))
+accepted-of q z = found-sample _ _ q.checked_layout-layout.ensures.laid z
 
-returns : tie.Need-returns
-returns c = (gaps-refused _ _ c.before.before.checked-layout.ensures.laid c.if1.true _, gaps-tell)
+returns : tie.Need-returns-then-layout-ne-NONE
+returns c = (gaps-refused _ _ c.checked_layout-layout.ensures.laid c.if-layout-ne-NONE.true _, gaps-tell)
 
-returns-2 : tie.Need-returns-2
+returns-2 : tie.Need-returns-then-gaps-layout
 returns-2 c =
-    let k = c.before.before.before in
-    let q = k.before.before in
-    let short = lt-ltb _ _ c.before.if2.true in
-    (gaps-eight _ _ q.checked-layout.ensures (accepted-of q k.if1.false) _ (sym short) _ c.refused-layout.ensures, gaps-tell)
+    let k = c in
+    let q = k in
+    let short = lt-ltb _ _ c.if-gaps-layout.true in
+    (gaps-eight _ _ q.checked_layout-layout.ensures (accepted-of q.before.before.before.before.before k.if-layout-ne-NONE.false) _ (sym short) _ c.refused_layout.ensures, gaps-tell)
 
-put-gaps-requires : tie.Need-put-gaps-requires
-put-gaps-requires c κs = let k = c.before.before.before in (k.before.before.checked-layout.ensures, c.before.if2.false)
+put-gaps-requires : tie.Need-put_gaps-requires
+put-gaps-requires c κs = let k = c in (k.checked_layout-layout.ensures, c.if-gaps-layout.false)
 
-returns-3 : tie.Need-returns-3
+returns-3 : tie.Need-returns
 returns-3 c =
-    let s = c.before.before.before.before in
-    let k = s.before.before in
-    let q = k.before.before in
-    let room = le-ltb _ _ s.if2.false in (
-      gaps-filled _ _ q.checked-layout.ensures (accepted-of q k.if1.false) _ (sym room) _ c.before.before.put-gaps.ensures,
+    let s = c in
+    let k = s in
+    let q = k in
+    let room = le-ltb _ _ s.if-gaps-layout.false in (
+      gaps-filled _ _ q.checked_layout-layout.ensures (accepted-of q.before.before.before.before.before.before.before.before k.if-layout-ne-NONE.false) _ (sym room) _ c.put_gaps.ensures,
       gaps-tell,
     )
 
-pub record-gaps-spec : {M : Type 1} → statement M
-record-gaps-spec =
+pub record_gaps_spec : {M : Type 1} → statement M
+record_gaps_spec =
     tie.close
     (tie.spec
     (λ c κs. search rules)

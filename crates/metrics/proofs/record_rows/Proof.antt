@@ -9,37 +9,37 @@ use Rattle.metrics.proofs.record_rows.Statement.{statement}
 use Rattle.metrics.proofs.record_rows.Tie as tie
 
 -- after the check: the file is laid out, and accepted where nothing of it is refused
-accepted-of : (q : tie.After-checked-layout) → q.checked-layout.result.refusal ≡ 0
-    → decode q.before.before.before.args.file.now ≡ accepted (sample_of (decode q.before.before.before.args.file.now))
-accepted-of q z = found-sample _ _ q.checked-layout.ensures.laid z
+accepted-of : (q : tie.After-checked_layout-layout) → q.checked_layout-layout.result.refusal ≡ 0
+    → decode q.args.file.now ≡ accepted (sample_of (decode q.args.file.now))
+accepted-of q z = found-sample _ _ q.checked_layout-layout.ensures.laid z
 
-returns : tie.Need-returns
-returns c = (rows-refused _ _ c.before.before.checked-layout.ensures.laid c.if1.true _, rows_tell)
+returns : tie.Need-returns-then-layout-ne-NONE
+returns c = (rows-refused _ _ c.checked_layout-layout.ensures.laid c.if-layout-ne-NONE.true _, rows_tell)
 
-returns-2 : tie.Need-returns-2
+returns-2 : tie.Need-returns-then-rows_short
 returns-2 c =
-    let k = c.before.before.before in
-    let q = k.before.before in (
-      rows-eight _ _ q.checked-layout.ensures (accepted-of q k.if1.false) _
-          (sym c.before.if2.true ∙ c.before.before.rows_short.ensures) _ c.refused-layout.ensures,
+    let k = c in
+    let q = k in (
+      rows-eight _ _ q.checked_layout-layout.ensures (accepted-of q.before.before.before.before.before k.if-layout-ne-NONE.false) _
+          (sym c.if-rows_short.true ∙ c.rows_short.ensures) _ c.refused_layout.ensures,
       rows_tell,
     )
 
-put-rows-requires : tie.Need-put-rows-requires
-put-rows-requires c κs = c.before.before.before.before.before.checked-layout.ensures
+put-rows-requires : tie.Need-put_rows-requires
+put-rows-requires c κs = c.checked_layout-layout.ensures
 
-returns-3 : tie.Need-returns-3
+returns-3 : tie.Need-returns
 returns-3 c =
-    let s = c.before.before.before.before.before in
-    let k = s.before in
-    let q = k.before.before in (
-      rows-filled _ _ q.checked-layout.ensures (accepted-of q k.if1.false) _
-          (sym c.before.before.before.before.if2.false ∙ s.rows_short.ensures) _ c.before.before.put-rows.ensures,
+    let s = c in
+    let k = s in
+    let q = k in (
+      rows-filled _ _ q.checked_layout-layout.ensures (accepted-of q.before.before.before.before.before.before.before.before k.if-layout-ne-NONE.false) _
+          (sym c.if-rows_short.false ∙ s.rows_short.ensures) _ c.put_rows.ensures,
       rows_tell,
     )
 
-pub record-rows-spec : {M : Type 1} → statement M
-record-rows-spec =
+pub record_rows_spec : {M : Type 1} → statement M
+record_rows_spec =
     tie.close
     (tie.spec
     (λ c κs. search rules)

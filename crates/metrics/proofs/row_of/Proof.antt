@@ -4,25 +4,25 @@ use Rattle.metrics.specs.Rows.{row_of}
 use Rattle.metrics.proofs.row_of.Statement.{statement}
 use Rattle.metrics.proofs.row_of.Tie as tie
 
-returns : tie.Need-returns
+returns : tie.Need-returns-in-Duplicate
 unfolding row_of
-returns c = rw c.before.before.answer.given.1
+returns c = rw c.in-Duplicate.is
 
-returns-2 : tie.Need-returns-2
+returns-2 : tie.Need-returns-in-InOrder
 unfolding row_of
-returns-2 c = rw c.before.before.before.answer2.given.1
+returns-2 c = rw c.in-InOrder.is
 
-returns-3 : tie.Need-returns-3
+returns-3 : tie.Need-returns-in-Reordered
 unfolding row_of
 returns-3 c =
     rw (
-      c.before.before.before.before.before.before.before.answer3.given.1,
-      c.before.before.before.before.before.by-direction.ensures,
-      c.before.before.amount.ensures,
+      c.in-Reordered.is,
+      c.by_direction.ensures,
+      c.amount.ensures,
     )
 
-pub row-of-spec : {M : Type 1} → statement M
-row-of-spec =
+pub row_of_spec : {M : Type 1} → statement M
+row_of_spec =
     tie.close
     (tie.spec
     (λ c. search rules) (λ c. search rules) (λ c. search rules) (λ c. search rules) (λ c. search rules) (λ c. search rules)

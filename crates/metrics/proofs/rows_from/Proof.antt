@@ -5,7 +5,7 @@ use Rattle.metrics.proofs.rows_from.Tie as tie
 
 returns : tie.Need-returns
 returns c =
-    record { layout = c.before.before.before.before.checked-layout.ensures.laid; rows = c.before.before.put-rows.ensures }
+    record { layout = c.checked_layout-layout.ensures.laid; rows = c.put_rows.ensures }
 
-pub rows-from-spec : {M : Type 1} → statement M
-rows-from-spec = tie.close (tie.spec (λ c κs. search rules) (λ c κs. search rules) (λ c. search rules) returns)
+pub rows_from_spec : {M : Type 1} → statement M
+rows_from_spec = tie.close (tie.spec (λ c κs. search rules) (λ c κs. search rules) (λ c. search rules) returns)

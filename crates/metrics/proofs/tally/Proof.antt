@@ -6,7 +6,7 @@ use Rattle.metrics.proofs.tally.Tie as tie
 
 returns : tie.Need-returns
 unfolding sample_tally
-returns c = rw (c.before.checked-layout.ensures.laid, c.tally-of.ensures)
+returns c = rw (c.checked_layout-layout.ensures.laid, c.tally_of-tally.ensures)
 
-pub tally-spec : {M : Type 1} → statement M
-tally-spec = tie.close (tie.spec (λ c κs. search rules) (λ c κs. search rules) returns)
+pub tally_spec : {M : Type 1} → statement M
+tally_spec = tie.close (tie.spec (λ c κs. search rules) (λ c κs. search rules) returns)

@@ -30,90 +30,90 @@ carried : (k : ℕ) (os : List ℕ) → OnlyOne time_of (records_arrivals os) ×
 carried k os = (only_one time_of (records_arrivals os), (distance, (accepted-lists k os, read-as-given)))
 
 -- places: where the lists are filled, where they are long enough, and the start from where K and the records are not refused
-abbrev filled : tie.After-to-microseconds-arg → tie.After-fill-arrivals
+abbrev filled : tie.After-to_microseconds-arg-1 → tie.After-fill_arrivals
 filled c = c.before.before.before.before.before
 
-abbrev long : tie.After-fill-arrivals → tie.Else3
+abbrev long : tie.After-fill_arrivals → tie.Else-times-count
 long c = c.before.before.before
 
-abbrev start : tie.Else1 → tie.Start
+abbrev start : tie.Else-refusal-ne0 → tie.Start
 start c = c.before.before.before.before.before.before
 
-abbrev records : tie.Else1 → List ℕ
+abbrev records : tie.Else-refusal-ne0 → List ℕ
 records c = (start c).args.records.now
 
 -- that they are not, and how many arrivals there are
-none : (c : tie.Else1) → records_refusal (start c).args.k (records c) ≡ 0
-none c = sym c.before.records-refusal.ensures ∙ c.if1.false
+none : (c : tie.Else-refusal-ne0) → records_refusal (start c).args.k (records c) ≡ 0
+none c = sym c.records_refusal-refusal.ensures ∙ c.if-refusal-ne0.false
 
-many : (c : tie.Else1) → c.before.before.judge-arrivals.result.arrivals ≡ length (records_arrivals (records c))
-many c = c.before.before.judge-arrivals.ensures.0
+many : (c : tie.Else-refusal-ne0) → c.judge_arrivals-judged.result.arrivals ≡ length (records_arrivals (records c))
+many c = c.judge_arrivals-judged.ensures.0
 
-returns : tie.Need-returns
+returns : tie.Need-returns-then-refusal-ne0
 returns c =
-    let a = c.before.before.before.before.before.before.args in
+    let a = c.args in
     let os = a.records.now in (
-      import-refused a.k os a.numbers.now a.times.now c.before.records-refusal.result
-          c.before.records-refusal.ensures c.if1.true,
+      import-refused a.k os a.numbers.now a.times.now c.records_refusal-refusal.result
+          c.records_refusal-refusal.ensures c.if-refusal-ne0.true,
       carried a.k os,
     )
 
-returns-2 : tie.Need-returns-2
+returns-2 : tie.Need-returns-then-numbers-count
 returns-2 c =
-    let e = c.before in (
-      import-short-numbers _ (records e) (start e).args.numbers.now (start e).args.times.now (none e) (many e) c.if2.true,
-      carried (start e).args.k (records e),
+    let e = c in (
+      import-short-numbers _ (records e.before) (start e.before).args.numbers.now (start e.before).args.times.now (none e.before) (many e.before) c.if-numbers-count.true,
+      carried (start e.before).args.k (records e.before),
     )
 
-returns-3 : tie.Need-returns-3
+returns-3 : tie.Need-returns-then-times-count
 returns-3 c =
-    let e = c.before.before in (
-      import-short-times _ (records e) (start e).args.numbers.now (start e).args.times.now (none e) (many e) c.if3.true,
-      carried (start e).args.k (records e),
+    let e = c in (
+      import-short-times _ (records e.before.before) (start e.before.before).args.numbers.now (start e.before.before).args.times.now (none e.before.before) (many e.before.before) c.if-times-count.true,
+      carried (start e.before.before).args.k (records e.before.before),
     )
 
-fill-arrivals-requires : tie.Need-fill-arrivals-requires
+fill-arrivals-requires : tie.Need-fill_arrivals-requires
 fill-arrivals-requires c κs =
-    let e = c.before.before.before.before in
-    let f = none-refused (start e).args.k (records e) (none e) in (
-      omega (arith, c.before.before.before.if2.false, many e),
-      omega (arith, c.before.before.if3.false, many e),
-      numbers_fit (start e).args.k (records_arrivals (records e)) f.most f.numbers,
+    let e = c in
+    let f = none-refused (start e.before.before.before.before).args.k (records e.before.before.before.before) (none e.before.before.before.before) in (
+      omega (arith, c.if-numbers-count.false, many e.before.before.before.before),
+      omega (arith, c.if-times-count.false, many e.before.before.before.before),
+      numbers_fit (start e.before.before.before.before).args.k (records_arrivals (records e.before.before.before.before)) f.most f.numbers,
       f.few,
     )
 
-to-microseconds-requires : tie.Need-to-microseconds-requires
+to-microseconds-requires : tie.Need-to_microseconds-requires
 to-microseconds-requires c κs =
     let w = filled c in
     let e = (long w).before.before in
-    let f = w.fill-arrivals in
-    let k = f.kept.1.0 in
+    let f = w.fill_arrivals in
+    let k = f.auto.numbers in
     let n = many e in
     (omega arith, λ i h. filled-first (records e) (start e).args.times.now f.ensures.1 i (omega arith))
 
-cast-t18 : tie.Need-overflow-cast-t18
+cast-t18 : tie.Need-overflow_cast-result
 cast-t18 c =
     let e = (long (filled c.before.before.before)).before.before in
     omega (arith, (none-refused (start e).args.k (records e) (none e)).few, many e)
 
-returns-4 : tie.Need-returns-4
+returns-4 : tie.Need-returns
 returns-4 c =
     let w = filled c.before.before.before in
     let r = long w in
-    let e = r.before.before in
-    let a = (start e).args in
-    let l = records_arrivals (records e) in
-    let f = w.fill-arrivals.ensures in
+    let e = r in
+    let a = (start e.before.before).args in
+    let l = records_arrivals (records e.before.before) in
+    let f = w.fill_arrivals.ensures in
     let t =
-    times-converted (in_time_order l) _ a.times.now (in_order-ordered time_of l).rising (many e ∙ sym (order-length time_of l)) f.1
-    c.before.before.to-microseconds.ensures in
-    let os = records e in
-    let h = r.before.if2.left in
-    let answer = import-filled a.k os a.numbers.now a.times.now _ (none e) (many e) h r.if3.left f.0 t in
+    times-converted (in_time_order l) _ a.times.now (in_order-ordered time_of l).rising (many e.before.before ∙ sym (order-length time_of l)) f.1
+    c.to_microseconds.ensures in
+    let os = records e.before.before in
+    let h = r.if-numbers-count.false in
+    let answer = import-filled a.k os a.numbers.now a.times.now _ (none e.before.before) (many e.before.before) h r.if-times-count.false f.0 t in
     (answer, carried a.k os)
 
-pub import-spec : {M : Type 1} → statement M
-import-spec =
+pub import_spec : {M : Type 1} → statement M
+import_spec =
     tie.close
     (tie.spec
     (λ c κs. search rules) (λ c κs. search rules)

@@ -30,74 +30,74 @@ carried : (file : List ℕ) → Octets file → RecordsReadAgain file × Records
 carried file o = (read_again file o, written-as-given)
 
 -- places: where there is room, where the sample is not refused, and the start
-abbrev accepted : tie.Else3 → tie.Else1
+abbrev accepted : tie.Else-out-end → tie.Else-layout-ne0
 accepted c = c.before.before.before.before
 
-abbrev start : tie.Else1 → tie.Start
+abbrev start : tie.Else-layout-ne0 → tie.Start
 start c = c.before.before.before.before.before
 
 -- the file, and that its octets are such
-abbrev file : tie.Else1 → List ℕ
+abbrev file : tie.Else-layout-ne0 → List ℕ
 file c = (start c).args.file.now
 
-octets : (c : tie.Else1) → Octets (file c)
-octets c = below-fits w8 (file c) c.before.before.before.before.shared-slice-known.given
+octets : (c : tie.Else-layout-ne0) → Octets (file c)
+octets c = below-fits w8 (file c) c.shared_slice_known-1.given
 
 -- its layout, the refusal that is not due, and how many arrivals it has
-found : (c : tie.Else1) → (c.before.before.check.result ≡ layout_of (decode (file c))) × (c.before.before.check.result.refusal ≡ 0)
-found c = (c.before.before.check.ensures.0, c.if1.false)
+found : (c : tie.Else-layout-ne0) → (c.check-layout.result ≡ layout_of (decode (file c))) × (c.check-layout.result.refusal ≡ 0)
+found c = (c.check-layout.ensures.0, c.if-layout-ne0.false)
 
-none : (c : tie.Else1) → decoded_refusal (decode (file c)) ≡ 0
-none c = sym (found-refusal (file c) _ c.before.before.check.ensures.0) ∙ c.if1.false
+none : (c : tie.Else-layout-ne0) → decoded_refusal (decode (file c)) ≡ 0
+none c = sym (found-refusal (file c) _ c.check-layout.ensures.0) ∙ c.if-layout-ne0.false
 
-many : (c : tie.Else1) → (c.before.before.check.result.arrivals ≡ length (arrivals_of_file (file c)))
+many : (c : tie.Else-layout-ne0) → (c.check-layout.result.arrivals ≡ length (arrivals_of_file (file c)))
     × (length (records_of (arrivals_of_file (file c))) ≡ record_width * length (arrivals_of_file (file c)))
 many c = (found-many (file c) _ (found c).0, records-many (arrivals_of_file (file c)))
 
-returns : tie.Need-returns
+returns : tie.Need-returns-then-layout-ne0
 returns c =
-    let s = c.before.before.before.before.before in
+    let s = c in
     let f = s.args.file.now in (
-      output-refused _ _ s.args.out.now _ (own-refusal f _ (found-refusal f _ c.before.before.check.ensures.0)
-          c.if1.true) c.if1.true,
-      carried f (below-fits w8 f c.before.before.before.before.shared-slice-known.given),
+      output-refused _ _ s.args.out.now _ (own-refusal f _ (found-refusal f _ c.check-layout.ensures.0)
+          c.if-layout-ne0.true) c.if-layout-ne0.true,
+      carried f (below-fits w8 f c.shared_slice_known-1.given),
     )
 
-judge-seconds-requires : tie.Need-judge-seconds-requires
+judge-seconds-requires : tie.Need-judge_seconds-refusal-requires
 judge-seconds-requires c κs = found c
 
-returns-2 : tie.Need-returns-2
+returns-2 : tie.Need-returns-then-refusal-ne0
 returns-2 c =
-    let e = c.before.before in (
-      output-refused _ _ (start e).args.out.now _ (times-refusal (file e) _ (none e) c.before.judge-seconds.ensures)
-          c.if2.true,
-      carried (file e) (octets e),
+    let e = c in (
+      output-refused _ _ (start e.before.before).args.out.now _ (times-refusal (file e.before.before) _ (none e.before.before) c.judge_seconds-refusal.ensures)
+          c.if-refusal-ne0.true,
+      carried (file e.before.before) (octets e.before.before),
     )
 
-returns-3 : tie.Need-returns-3
+returns-3 : tie.Need-returns-then-out-end
 returns-3 c =
-    let e = c.before.before.before.before in
-    let due = times-refusal (file e) 0 (none e) (sym c.before.before.if2.false ∙ c.before.before.before.judge-seconds.ensures) in
-    (output-short _ _ (start e).args.out.now (sym due) (omega (arith, c.if3.true, many e)), carried (file e) (octets e))
+    let e = c in
+    let due = times-refusal (file e.before.before.before.before) 0 (none e.before.before.before.before) (sym c.if-refusal-ne0.false ∙ c.judge_seconds-refusal.ensures) in
+    (output-short _ _ (start e.before.before.before.before).args.out.now (sym due) (omega (arith, c.if-out-end.true, many e.before.before.before.before)), carried (file e.before.before.before.before) (octets e.before.before.before.before))
 
-write-records-requires : tie.Need-write-records-requires
-write-records-requires c κs = (found c.before.before.before.before.before, omega (arith, c.before.if3.false))
+write-records-requires : tie.Need-write_records-requires
+write-records-requires c κs = (found c.before.before.before.before.before, omega (arith, c.if-out-end.false))
 
-cast-t11 : tie.Need-overflow-cast-t11
+cast-t11 : tie.Need-overflow_cast-result
 cast-t11 c =
     let e = accepted c.before.before.before.before in
     let f = found e in
     let d = found-sample (file e) _ f.0 f.1 in
     omega (arith, (accepted-limits (file e) (sample_of (decode (file e))) d (octets e)).arrivals_fit, many e)
 
-returns-4 : tie.Need-returns-4
+returns-4 : tie.Need-returns
 returns-4 c =
-    let r = c.before.before.before.before in
-    let e = accepted r in
-    let j = r.before.before in
-    let due = times-refusal (file e) 0 (none e) (sym j.if2.false ∙ j.before.judge-seconds.ensures) in (
-      output-written _ _ (start e).args.out.now (sym due) (omega (arith, r.if3.false, many e)) (omega (arith, many e))
-          (c.before.before.write-records.ensures ∙ sym (over-splice (records_of (arrivals_of_file (file e))) (start e).args.out.now)),
+    let r = c in
+    let e = accepted r.before.before.before.before in
+    let j = r in
+    let due = times-refusal (file e) 0 (none e) (sym j.if-refusal-ne0.false ∙ j.judge_seconds-refusal.ensures) in (
+      output-written _ _ (start e).args.out.now (sym due) (omega (arith, r.if-out-end.false, many e)) (omega (arith, many e))
+          (c.write_records.ensures ∙ sym (over-splice (records_of (arrivals_of_file (file e))) (start e).args.out.now)),
       carried (file e) (octets e),
     )
 

@@ -25,96 +25,96 @@ use Rattle.owamp.proofs.write_records.Statement.{statement}
 use Rattle.owamp.proofs.write_records.Tie as tie
 
 -- out₀ and i₀ are the values where the loop begins, out and i those at its head
-abbrev invariant-loop : tie.invariant-loop
-invariant-loop file layout out₀ count i₀ out i = (i ≤ count) × (out ≡ splice 0 (item_octets record_octets (take i (arrivals_of_file file))) out₀)
+abbrev invariant-loop-i : tie.invariant-loop-i
+invariant-loop-i file layout out₀ count i₀ out i = (i ≤ count) × (out ≡ splice 0 (item_octets record_octets (take i (arrivals_of_file file))) out₀)
 
-abbrev decreases-loop : tie.decreases-loop
-decreases-loop file layout out₀ count i₀ out i = count - i
+abbrev decreases-loop-i : tie.decreases-loop-i
+decreases-loop-i file layout out₀ count i₀ out i = count - i
 
 -- places: the start, from the head of the loop
-abbrev start : tie.At-loop invariant-loop decreases-loop → tie.Start invariant-loop decreases-loop
+abbrev start : tie.At-loop-i invariant-loop-i decreases-loop-i → tie.Start invariant-loop-i decreases-loop-i
 start c = c.before.before.before
 
 -- the length stays
-kept : (c : tie.At-loop invariant-loop decreases-loop) → length c.loop.out ≡ length (start c).args.out.now
+kept : (c : tie.At-loop-i invariant-loop-i decreases-loop-i) → length c.loop-i.out ≡ length (start c).args.out.now
 kept c =
     let a = start c in
-    let m = found-many a.args.file.now a.args.layout a.pre.0.0 in
+    let m = found-many a.args.file.now a.args.layout a.requires.0.0 in
     let xs = arrivals_of_file a.args.file.now in
-    let r : 0 + record_width * length xs ≤ length a.args.out.now = omega (arith, a.pre.1) in
-    write-length record_octets record_width record-long xs 0 a.args.out.now r c.loop.i c.loop.invariant.1 (omega arith)
+    let r : 0 + record_width * length xs ≤ length a.args.out.now = omega (arith, a.requires.1) in
+    write-length record_octets record_width record-long xs 0 a.args.out.now r c.loop-i.i c.loop-i.invariant.1 (omega arith)
 
 -- the arrival that was read
-there : (c : tie.After-arrival invariant-loop decreases-loop) → let l = c.before.before in
-    c.arrival.result ≡ get_or (arrivals_of_file (start l).args.file.now) l.loop.i no_arrival
+there : (c : tie.After-arrival-arrival invariant-loop-i decreases-loop-i) → let l = c in
+    c.arrival-arrival.result ≡ get_or (arrivals_of_file (start l.before.before).args.file.now) l.loop-i.i no_arrival
 there c =
     let a = start c.before.before in
-    c.arrival.ensures.1 a.pre.0.0 (search rules)
+    c.arrival-arrival.ensures.1 a.requires.0.0 (search rules)
 
-loop-holds : tie.Need-loop-init invariant-loop decreases-loop
+loop-holds : tie.Need-loop-i-init invariant-loop-i decreases-loop-i
 loop-holds c =
-    let a = c.before.before in
+    let a = c in
     let m = found-many a.args.file.now a.args.layout a.requires.0.0 in
     let xs = arrivals_of_file a.args.file.now in
     let r : 0 + record_width * length xs ≤ length a.args.out.now = omega (arith, a.requires.1) in
     (search rules, write-start record_octets record_width record-long xs 0 a.args.out.now r)
 
-part-lent-end : tie.Need-slice-bounds-lent-end invariant-loop decreases-loop
+part-lent-end : tie.Need-slice_bounds-lent-end invariant-loop-i decreases-loop-i
 part-lent-end c =
     let k = kept c.before.before in
-    let p = (start c.before.before).pre.1 in
+    let p = (start c.before.before).requires.1 in
     omega arith
 
-put-packet-record-requires : tie.Need-put-packet-record-requires invariant-loop decreases-loop
+put-packet-record-requires : tie.Need-put_packet_record-requires invariant-loop-i decreases-loop-i
 put-packet-record-requires c κs =
-    let l = c.before.before.before in
-    let a = start l in
-    let m = found-many a.args.file.now a.args.layout a.pre.0.0 in
+    let l = c in
+    let a = start l.before.before.before in
+    let m = found-many a.args.file.now a.args.layout a.requires.0.0 in
     let xs = arrivals_of_file a.args.file.now in
-    let r : 0 + record_width * length xs ≤ length a.args.out.now = omega (arith, a.pre.1) in
+    let r : 0 + record_width * length xs ≤ length a.args.out.now = omega (arith, a.requires.1) in
     let f = a.args.file.now in
-    let k = kept l in
+    let k = kept l.before.before.before in
     let e = ap (λ (x : Arrival). x.number) (there c.before) in
-    let o = below-fits w8 f l.before.before.shared-slice-known.given in
-    let d = found-sample f a.args.layout a.pre.0.0 a.pre.0.1 in
-    let w = (number-within f (sample_of (decode f)) d o no_arrival l.loop.i (omega arith)).0 in
+    let o = below-fits w8 f l.shared_slice_known-1.given in
+    let d = found-sample f a.args.layout a.requires.0.0 a.requires.0.1 in
+    let w = (number-within f (sample_of (decode f)) d o no_arrival l.loop-i.i (omega arith)).0 in
     (omega arith, simp (length-take, length-drop) (omega arith))
 
-loop-again : tie.Need-loop-preserved invariant-loop decreases-loop
+loop-again : tie.Need-loop-i-preserved invariant-loop-i decreases-loop-i
 loop-again c =
-    let l = c.before.before.before.before.before.before in
-    let a = start l in
-    let m = found-many a.args.file.now a.args.layout a.pre.0.0 in
+    let l = c in
+    let a = start l.before.before.before.before.before.before in
+    let m = found-many a.args.file.now a.args.layout a.requires.0.0 in
     let xs = arrivals_of_file a.args.file.now in
-    let r : 0 + record_width * length xs ≤ length a.args.out.now = omega (arith, a.pre.1) in
-    let i = l.loop.i in
+    let r : 0 + record_width * length xs ≤ length a.args.out.now = omega (arith, a.requires.1) in
+    let i = l.loop-i.i in
     let z : 0 + record_width * i ≡ record_width * i = zero-add (record_width * i) in
-    let q : c.before.before.put-packet-record.new.0 ≡ put 0 (record_octets (get_or xs i no_arrival))
-    (taken (0 + record_width * i) record_width l.loop.out) =
-    rw z (c.before.before.put-packet-record.ensures ∙ ap (λ (x : Arrival). put 0 (record_octets x)
-    (taken (record_width * i) record_width l.loop.out)) (there c.before.before.before.before)) in
-    let n = write-next record_octets record_width record-long xs 0 a.args.out.now r i l.loop.invariant.1 no_arrival (omega arith) q in
+    let q : c.put_packet_record.new.lent ≡ put 0 (record_octets (get_or xs i no_arrival))
+    (taken (0 + record_width * i) record_width l.loop-i.out) =
+    rw z (c.put_packet_record.ensures ∙ ap (λ (x : Arrival). put 0 (record_octets x)
+    (taken (record_width * i) record_width l.loop-i.out)) (there c.before.before.before.before)) in
+    let n = write-next record_octets record_width record-long xs 0 a.args.out.now r i l.loop-i.invariant.1 no_arrival (omega arith) q in
     (search rules, rw z at n)
 
-same_length : tie.Need-same-length invariant-loop decreases-loop
+same_length : tie.Need-shape_of-out invariant-loop-i decreases-loop-i
 same_length c = kept c.before
 
-returns : tie.Need-returns invariant-loop decreases-loop
+returns : tie.Need-returns invariant-loop-i decreases-loop-i
 unfolding records_of
 returns c =
-    let l = c.before in
-    let a = start l in
-    let m = found-many a.args.file.now a.args.layout a.pre.0.0 in
+    let l = c in
+    let a = start l.before in
+    let m = found-many a.args.file.now a.args.layout a.requires.0.0 in
     let xs = arrivals_of_file a.args.file.now in
-    let r : 0 + record_width * length xs ≤ length a.args.out.now = omega (arith, a.pre.1) in
-    write_done record_octets record_width record-long xs 0 a.args.out.now r l.loop.i l.loop.invariant.1 (omega arith)
+    let r : 0 + record_width * length xs ≤ length a.args.out.now = omega (arith, a.requires.1) in
+    write_done record_octets record_width record-long xs 0 a.args.out.now r l.loop-i.i l.loop-i.invariant.1 (omega arith)
 
-pub write-records-spec : {M : Type 1} → statement M
-write-records-spec =
+pub write_records_spec : {M : Type 1} → statement M
+write_records_spec =
     tie.close
     (tie.spec
-    invariant-loop
-    decreases-loop
+    invariant-loop-i
+    decreases-loop-i
     loop-holds
     (λ c κs. search rules) (λ c. search rules) (λ c. search rules) (λ c. search rules) (λ c. search rules)
     (λ c. search rules)

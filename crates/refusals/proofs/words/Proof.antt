@@ -5,23 +5,21 @@ use Rattle.refusals.proofs.Asked.{words-fit, named, above}
 use Rattle.refusals.proofs.words.Statement.{statement}
 use Rattle.refusals.proofs.words.Tie as tie
 
-pub words-spec : {M : Type 1} → statement M
-words-spec =
+pub words_spec : {M : Type 1} → statement M
+words_spec =
     tie.close
-    (tie.spec
-    (λ c. search rules) (λ c κs. search rules) (λ c. search rules) (λ c κs. search rules) (λ c. search rules) (λ c κs. search rules)
-    (λ c. search rules) (λ c κs. search rules) (λ c. search rules) (λ c κs. search rules) (λ c. search rules) (λ c κs. search rules)
-    (λ c κs low. above 0 6 c.before.before.before.args.refusal c.before.match.rest low)
+    (tie.spec (λ c κs. search rules) (λ c κs. search rules) (λ c κs. search rules) (λ c κs. search rules) (λ c κs. search rules) (λ c κs. search rules)
+    (λ c κs low. above 0 6 c.args.refusal c.in_default.in_default-own.rest low)
     (λ c. search rules)
-    (λ c. (named 1 c.before.before.before.before.before.match.keys1 c.before.before.write-whole.ensures, words-fit))
+    (λ c. (named 1 c.in-1.is c.write_whole.ensures, words-fit))
     (λ c. search rules)
-    (λ c. (named 2 c.before.before.before.before.before.match.keys2 c.before.before.write-whole2.ensures, words-fit))
+    (λ c. (named 2 c.in-2.is c.write_whole-in-2.ensures, words-fit))
     (λ c. search rules)
-    (λ c. (named 3 c.before.before.before.before.before.match.keys3 c.before.before.write-whole3.ensures, words-fit))
+    (λ c. (named 3 c.in-3.is c.write_whole-in-3.ensures, words-fit))
     (λ c. search rules)
-    (λ c. (named 4 c.before.before.before.before.before.match.keys4 c.before.before.write-whole4.ensures, words-fit))
+    (λ c. (named 4 c.in-4.is c.write_whole-in-4.ensures, words-fit))
     (λ c. search rules)
-    (λ c. (named 5 c.before.before.before.before.before.match.keys5 c.before.before.write-whole5.ensures, words-fit))
+    (λ c. (named 5 c.in-5.is c.write_whole-in-5.ensures, words-fit))
     (λ c. search rules)
-    (λ c. (named 6 c.before.before.before.before.before.match.keys6 c.before.before.write-whole6.ensures, words-fit))
-    (λ c. search rules) (λ c. (c.before.before.words-above-6.ensures, words-fit)))
+    (λ c. (named 6 c.in-6.is c.write_whole-in-6.ensures, words-fit))
+    (λ c. search rules) (λ c. (c.words_above_6.ensures, words-fit)))

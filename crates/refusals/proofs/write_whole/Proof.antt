@@ -7,16 +7,16 @@ use Rattle.sample.proofs.Output.{output-short, output-written}
 use Rattle.refusals.proofs.write_whole.Statement.{statement}
 use Rattle.refusals.proofs.write_whole.Tie as tie
 
-returns : tie.Need-returns
-returns c = output-short _ _ _ refl c.if1.true
+returns : tie.Need-returns-then-out-length
+returns c = output-short _ _ _ refl c.if-out-length.true
 
-returns-2 : tie.Need-returns-2
+returns-2 : tie.Need-returns
 returns-2 c =
-    let left = c.before.before.before.before in
-    let a = left.before.before.before.args in
-    output-written _ _ _ refl left.if1.false refl
-    (c.before.before.put-octets.ensures ∙ put-room 0 a.octets.now a.out.now (omega (arith, left.if1.false))
+    let left = c in
+    let a = left.args in
+    output-written _ _ _ refl left.if-out-length.false refl
+    (c.put_octets.ensures ∙ put-room 0 a.octets.now a.out.now (omega (arith, left.if-out-length.false))
     ∙ sym (over-splice a.octets.now a.out.now))
 
-pub write-whole-spec : {M : Type 1} → statement M
-write-whole-spec = tie.close (tie.spec returns (λ c κs. search rules) (λ c. search rules) (λ c. search rules) returns-2)
+pub write_whole_spec : {M : Type 1} → statement M
+write_whole_spec = tie.close (tie.spec returns (λ c κs. search rules) (λ c. search rules) (λ c. search rules) returns-2)

@@ -17,95 +17,95 @@ use Rattle.textlog.proofs.fill_arrivals.Statement.{statement}
 use Rattle.textlog.proofs.fill_arrivals.Tie as tie
 
 -- numbers₀, times₀, at₀ and i₀ are the values where the loop begins, numbers, times, at and i those at its head
-abbrev invariant-loop : tie.invariant-loop
-invariant-loop log numbers₀ times₀ at₀ i₀ numbers times at i = Filled log numbers₀ times₀ at i numbers times
+abbrev invariant-loop-at : tie.invariant-loop-at
+invariant-loop-at log numbers₀ times₀ at₀ i₀ numbers times at i = Filled log numbers₀ times₀ at i numbers times
 
-abbrev decreases-loop : tie.decreases-loop
-decreases-loop log numbers₀ times₀ at₀ i₀ numbers times at i = length log - at
+abbrev decreases-loop-at : tie.decreases-loop-at
+decreases-loop-at log numbers₀ times₀ at₀ i₀ numbers times at i = length log - at
 
 -- ---- places in the code: the loop's head (l), and after a line is read (c)
 
-abbrev start : tie.At-loop invariant-loop decreases-loop → tie.Start invariant-loop decreases-loop
+abbrev start : tie.At-loop-at invariant-loop-at decreases-loop-at → tie.Start invariant-loop-at decreases-loop-at
 start l = l.before.before.before.before
 
-abbrev log-at : tie.At-loop invariant-loop decreases-loop → List ℕ
+abbrev log-at : tie.At-loop-at invariant-loop-at decreases-loop-at → List ℕ
 log-at l = (start l).args.log.now
 
-abbrev head : tie.After-known-told invariant-loop decreases-loop → tie.At-loop invariant-loop decreases-loop
-head c = c.before.before.before.before.before
+abbrev head : tie.In-Read invariant-loop-at decreases-loop-at → tie.At-loop-at invariant-loop-at decreases-loop-at
+head c = c.before.before.before
 
 -- the line that is read
-read : (c : tie.After-known-told invariant-loop decreases-loop) → let given = c.before.number.given.0 in
-    line_in (head c).loop.at (drop (head c).loop.at (log-at (head c))) ≡ Read given.0 given.1.0 given.1.1.0
-read c = sym c.before.before.before.line_at_lem.ensures ∙ c.before.number.given.1
+read : (c : tie.In-Read invariant-loop-at decreases-loop-at) → let given = c.in-Read in
+    line_in (head c).loop-at.at (drop (head c).loop-at.at (log-at (head c))) ≡ Read given.number given.time given.end
+read c = sym c.line_at.ensures ∙ c.in-Read.is
 
 -- it is one of the log's
-within : (c : tie.After-known-told invariant-loop decreases-loop) → (head c).loop.i < length (decoded_lines (log-at (head c)))
-within c = within-lines _ _ _ (start (head c)).pre _ _ _ _ (head c).loop.invariant _ _ _ (read c)
+within : (c : tie.In-Read invariant-loop-at decreases-loop-at) → (head c).loop-at.i < length (decoded_lines (log-at (head c)))
+within c = within-lines _ _ _ (start (head c)).requires _ _ _ _ (head c).loop-at.invariant _ _ _ (read c)
 
-loop-holds : tie.Need-loop-init invariant-loop decreases-loop
+loop-holds : tie.Need-loop-at-init invariant-loop-at decreases-loop-at
 loop-holds c = filled_none _ _ _
 
-enum_told : tie.Need-enum-told invariant-loop decreases-loop
+enum_told : tie.Need-enum_told-1 invariant-loop-at decreases-loop-at
 enum_told c = search rules
 
-same_length : tie.Need-same-length invariant-loop decreases-loop
-same_length c = let l = c.before.before.before.before in kept-numbers _ _ _ (start l).requires _ _ _ _ l.loop.invariant
+same_length : tie.Need-shape_of-numbers-in_default invariant-loop-at decreases-loop-at
+same_length c = let l = c in kept-numbers _ _ _ (start l.before.before.before).requires _ _ _ _ l.loop-at.invariant
 
-same-length-2 : tie.Need-same-length-2 invariant-loop decreases-loop
-same-length-2 c = let l = c.before.before.before.before in kept-times _ _ _ (start l).requires _ _ _ _ l.loop.invariant
+same-length-2 : tie.Need-shape_of-times-in_default invariant-loop-at decreases-loop-at
+same-length-2 c = let l = c in kept-times _ _ _ (start l.before.before.before).requires _ _ _ _ l.loop-at.invariant
 
-returns : tie.Need-returns invariant-loop decreases-loop
+returns : tie.Need-returns-in_default invariant-loop-at decreases-loop-at
 returns c =
-    let l = c.before.before.before.before in
+    let l = c in
     absurd
-    (none-bad _ _ _ (start l).requires _ _ _ _ l.loop.invariant
-    c.before.before.before.loop-test.true (sym c.before.before.line_at_lem.ensures ∙ c.enum_told.given.1))
+    (none-bad _ _ _ (start l.before.before.before).requires _ _ _ _ l.loop-at.invariant
+    c.loop-at-test.true (sym c.line_at.ensures ∙ c.in_default.is))
 
-slice-write-numbers : tie.Need-slice-write-numbers invariant-loop decreases-loop
+slice-write-numbers : tie.Need-bounds-numbers-i invariant-loop-at decreases-loop-at
 slice-write-numbers c =
-    let p = (start (head c)).pre in
-    let k = kept-numbers _ _ _ p _ _ _ _ (head c).loop.invariant in
+    let p = (start (head c)).requires in
+    let k = kept-numbers _ _ _ p _ _ _ _ (head c).loop-at.invariant in
     omega (arith, within c, p.numbers_room)
 
-slice-write-times : tie.Need-slice-write-times invariant-loop decreases-loop
+slice-write-times : tie.Need-bounds-times-i invariant-loop-at decreases-loop-at
 slice-write-times c =
-    let p = (start (head c)).pre in
-    let k = kept-times _ _ _ p _ _ _ _ (head c).loop.invariant in
+    let p = (start (head c)).requires in
+    let k = kept-times _ _ _ p _ _ _ _ (head c).loop-at.invariant in
     omega (arith, within c, p.times_room)
 
-add-i : tie.Need-overflow-add-i invariant-loop decreases-loop
-add-i c = omega (arith, within c, (start (head c)).pre.times_room)
+add-i : tie.Need-overflow_add-i invariant-loop-at decreases-loop-at
+add-i c = omega (arith, within c, (start (head c)).requires.times_room)
 
-loop-less : tie.Need-loop-smaller invariant-loop decreases-loop
-loop-less c = omega (arith, (line_read _ _ (read c)).onward, c.before.before.before.before.loop-test.true)
+loop-less : tie.Need-loop-at-smaller invariant-loop-at decreases-loop-at
+loop-less c = omega (arith, (line_read _ _ (read c)).onward, c.loop-at-test.true)
 
-loop-again : tie.Need-loop-preserved invariant-loop decreases-loop
+loop-again : tie.Need-loop-at-preserved invariant-loop-at decreases-loop-at
 loop-again c =
     let a = (start (head c)).args in
-    let p = (start (head c)).pre in
-    let l = (head c).loop in
+    let p = (start (head c)).requires in
+    let l = (head c).loop-at in
     let w = within c in
     let h : l.i < length a.numbers.now = omega (arith, p.numbers_room) in
     let k : l.i < length a.times.now = omega (arith, p.times_room) in
-    filled_next _ _ _ p _ _ _ _ l.inv _ _ _ (read c)
+    filled_next _ _ _ p _ _ _ _ l.invariant _ _ _ (read c)
     (λ xs e b d. fill-next xs a.numbers.now l.i 0 b h d e) (λ xs e b d. fill-next xs a.times.now l.i 0 b k d e)
 
-same-length-3 : tie.Need-same-length-3 invariant-loop decreases-loop
-same-length-3 c = let l = c.before in kept-numbers _ _ _ (start l).requires _ _ _ _ l.loop.invariant
+same-length-3 : tie.Need-shape_of-numbers invariant-loop-at decreases-loop-at
+same-length-3 c = let l = c in kept-numbers _ _ _ (start l.before).requires _ _ _ _ l.loop-at.invariant
 
-same-length-4 : tie.Need-same-length-4 invariant-loop decreases-loop
-same-length-4 c = let l = c.before in kept-times _ _ _ (start l).requires _ _ _ _ l.loop.invariant
+same-length-4 : tie.Need-shape_of-times invariant-loop-at decreases-loop-at
+same-length-4 c = let l = c in kept-times _ _ _ (start l.before).requires _ _ _ _ l.loop-at.invariant
 
-returns-2 : tie.Need-returns-2 invariant-loop decreases-loop
-returns-2 c = let l = c.before in filled-done _ _ _ (start l).requires _ _ _ _ l.loop.invariant c.loop-test.false
+returns-2 : tie.Need-returns invariant-loop-at decreases-loop-at
+returns-2 c = let l = c in filled-done _ _ _ (start l.before).requires _ _ _ _ l.loop-at.invariant c.loop-at-test.false
 
-pub fill-arrivals-spec : {M : Type 1} → statement M
-fill-arrivals-spec =
+pub fill_arrivals_spec : {M : Type 1} → statement M
+fill_arrivals_spec =
     tie.close
     (tie.spec
-    invariant-loop
-    decreases-loop
+    invariant-loop-at
+    decreases-loop-at
     loop-holds
     (λ c κs. search rules) (λ c. search rules)
     enum_told

@@ -26,69 +26,69 @@ carried k log = ((exact-line, exact-log k log), (fit-log k log, read-as-given))
 
 -- ---- places in the code, each by the one before it: after `judge_log`, where nothing is refused, where the lists have room
 
-abbrev start : tie.After-judge-log → tie.Start
+abbrev start : tie.After-judge_log-judgement → tie.Start
 start j = j.before.before.before.before
 
-abbrev judged : tie.Else1 → tie.After-judge-log
+abbrev judged : tie.Else-judgement-ne0 → tie.After-judge_log-judgement
 judged n = n.before.before
 
-abbrev accepted : tie.Else2 → tie.Else1
+abbrev accepted : tie.Else-too_short → tie.Else-judgement-ne0
 accepted f = f.before.before
 
 -- the lists are long enough
-room : (f : tie.Else2)
-    → log_lists_short (judged (accepted f)).judge-log.result.arrivals (length (start (judged (accepted f))).args.numbers.now)
+room : (f : tie.Else-too_short)
+    → log_lists_short (judged (accepted f)).judge_log-judgement.result.arrivals (length (start (judged (accepted f))).args.numbers.now)
     (length (start (judged (accepted f))).args.times.now)
     ≡ false
-room f = sym f.before.too_short.ensures ∙ f.if2.false
+room f = sym f.too_short.ensures ∙ f.if-too_short.false
 
 -- ---- the needs
 
-returns : tie.Need-returns
+returns : tie.Need-returns-then-judgement-ne0
 returns c =
-    let j = c.before.before.before in
-    let a = (start j).args in (
-      import-refused a.k (decoded_lines a.log.now) a.numbers.now a.times.now j.judge-log.result
-          j.judge-log.ensures c.before.if1.true c.refused-import.ensures,
+    let j = c in
+    let a = (start j.before.before.before).args in (
+      import-refused a.k (decoded_lines a.log.now) a.numbers.now a.times.now j.judge_log-judgement.result
+          j.judge_log-judgement.ensures c.if-judgement-ne0.true c.refused_import.ensures,
       carried a.k a.log.now,
     )
 
-returns-2 : tie.Need-returns-2
+returns-2 : tie.Need-returns-then-too_short
 returns-2 c =
-    let n = c.before.before.before in
-    let j = judged n in
+    let n = c in
+    let j = judged n.before.before.before in
     let a = (start j).args in
-    let short = sym c.before.before.too_short.ensures ∙ c.before.if2.true in (
-      import-short a.k (decoded_lines a.log.now) a.numbers.now a.times.now j.judge-log.result j.judge-log.ensures
-          n.if1.false short c.refused-import2.ensures,
+    let short = sym c.too_short.ensures ∙ c.if-too_short.true in (
+      import-short a.k (decoded_lines a.log.now) a.numbers.now a.times.now j.judge_log-judgement.result j.judge_log-judgement.ensures
+          n.if-judgement-ne0.false short c.refused_import-then-too_short.ensures,
       carried a.k a.log.now,
     )
 
-fill-arrivals-requires : tie.Need-fill-arrivals-requires
+fill-arrivals-requires : tie.Need-fill_arrivals-requires
 fill-arrivals-requires c κs =
-    let f = c.before.before in
-    let j = judged (accepted f) in
+    let f = c in
+    let j = judged (accepted f.before.before) in
     let a = (start j).args in
     let ds = decoded_lines a.log.now in
-    let y = j.judge-log.result in
-    let none = ap (λ (x : LogJudgement). x.refusal) (sym j.judge-log.ensures) ∙ (accepted f).if1.false in
-    let r = rooms a.k ds a.numbers.now a.times.now y j.judge-log.ensures (accepted f).if1.false (room f) in
+    let y = j.judge_log-judgement.result in
+    let none = ap (λ (x : LogJudgement). x.refusal) (sym j.judge_log-judgement.ensures) ∙ (accepted f.before.before).if-judgement-ne0.false in
+    let r = rooms a.k ds a.numbers.now a.times.now y j.judge_log-judgement.ensures (accepted f.before.before).if-judgement-ne0.false (room f.before.before) in
     record { decodes = (accepted-decoded a.k ds none).in_turn.decodes; numbers_room = r.0; times_room = r.1 }
 
-returns-3 : tie.Need-returns-3
+returns-3 : tie.Need-returns
 returns-3 c =
-    let filled = c.before.before.before.before in
-    let f = filled.before.before.before in
-    let j = judged (accepted f) in
+    let filled = c in
+    let f = filled in
+    let j = judged (accepted f.before.before.before.before.before.before.before) in
     let a = (start j).args in
-    let e = filled.fill-arrivals.ensures in (
-      import-filled a.k (decoded_lines a.log.now) a.numbers.now a.times.now j.judge-log.result j.judge-log.ensures
-          (accepted f).if1.false (room f) e.0 e.1,
+    let e = filled.fill_arrivals.ensures in (
+      import-filled a.k (decoded_lines a.log.now) a.numbers.now a.times.now j.judge_log-judgement.result j.judge_log-judgement.ensures
+          (accepted f.before.before.before.before.before.before.before).if-judgement-ne0.false (room f.before.before.before.before.before.before.before) e.0 e.1,
       carried a.k a.log.now,
     )
 
-pub import-spec : {M : Type 1} → statement M
-import-spec =
+pub import_spec : {M : Type 1} → statement M
+import_spec =
     tie.close
     (tie.spec
     (λ c κs. search rules) (λ c κs. search rules)

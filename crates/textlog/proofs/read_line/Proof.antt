@@ -31,26 +31,26 @@ line-whole : (l : List ℕ) (number time end : ℕ) → line_in 0 l ≡ Read num
 unfolding decode_line
 line-whole l number time end e h = rw (e, eq-eqb end (length l) h) refl
 
-enum_told : tie.Need-enum-told
+enum_told : tie.Need-enum_told-1
 enum_told c = search rules
 
-returns : tie.Need-returns
+returns : tie.Need-returns-in_default
 returns c =
-    c.malformed-line.ensures ∙ line-malformed _ (sym c.before.before.before.line_at_lem.ensures ∙ c.before.enum_told.given.1)
+    c.malformed_line.ensures ∙ line-malformed _ (sym c.line_at.ensures ∙ c.in_default.is)
 
-returns-2 : tie.Need-returns-2
+returns-2 : tie.Need-returns-then-end-line
 returns-2 c =
-    let r = c.before.before in
-    c.malformed-line2.ensures
-    ∙ line-followed _ _ _ _ (sym r.before.before.before.line_at_lem.ensures ∙ r.before.number.given.1) c.before.if1.true
+    let r = c in
+    c.malformed_line-then-end-line.ensures
+    ∙ line-followed _ _ _ _ (sym r.line_at.ensures ∙ r.in-Read.is) c.if-end-line.true
 
-returns-3 : tie.Need-returns-3
+returns-3 : tie.Need-returns
 returns-3 c =
-    let r = c.before in
-    line-whole _ _ _ _ (sym r.before.before.before.line_at_lem.ensures ∙ r.before.number.given.1) c.if1.false
+    let r = c in
+    line-whole _ _ _ _ (sym r.line_at.ensures ∙ r.in-Read.is) c.if-end-line.false
 
-pub read-line-spec : {M : Type 1} → statement M
-read-line-spec =
+pub read_line_spec : {M : Type 1} → statement M
+read_line_spec =
     tie.close
     (tie.spec
     (λ c κs. search rules) (λ c. search rules)

@@ -6,7 +6,7 @@ use Rattle.textlog.proofs.refused_line.Statement.{statement}
 use Rattle.textlog.proofs.refused_line.Tie as tie
 
 returns : tie.Need-returns
-returns c = ap (λ (x : LogJudgement). x.line) c.judge-log.ensures
+returns c = ap (λ (x : LogJudgement). x.line) c.judge_log.ensures
 
-pub refused-line-spec : {M : Type 1} → statement M
-refused-line-spec = tie.close (tie.spec (λ c κs. search rules) returns)
+pub refused_line_spec : {M : Type 1} → statement M
+refused_line_spec = tie.close (tie.spec (λ c κs. search rules) returns)

@@ -5,13 +5,13 @@ use Rattle.textlog.specs.Calls.{log_lists_short}
 use Rattle.textlog.proofs.too_short.Statement.{statement}
 use Rattle.textlog.proofs.too_short.Tie as tie
 
-returns : tie.Need-returns
+returns : tie.Need-returns-then-numbers-arrivals
 unfolding log_lists_short
-returns c = simp (lt-ltb _ _ c.if1.true)
+returns c = simp (lt-ltb _ _ c.if-numbers-arrivals.true)
 
-returns-2 : tie.Need-returns-2
+returns-2 : tie.Need-returns
 unfolding log_lists_short
-returns-2 c = simp (le-ltb _ _ c.if1.false)
+returns-2 c = simp (le-ltb _ _ c.if-numbers-arrivals.false)
 
-pub too-short-spec : {M : Type 1} → statement M
-too-short-spec = tie.close (tie.spec returns returns-2)
+pub too_short_spec : {M : Type 1} → statement M
+too_short_spec = tie.close (tie.spec returns returns-2)

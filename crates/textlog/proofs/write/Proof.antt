@@ -16,69 +16,69 @@ use Rattle.textlog.proofs.write.Statement.{statement}
 use Rattle.textlog.proofs.write.Tie as tie
 
 -- places: where the log is counted, where the lists are judged, and the entry
-abbrev counted : tie.After-put-lines-arg → tie.After-log-length
+abbrev counted : tie.After-put_lines-arg-1 → tie.After-log_length-length
 counted c = c.before.before
 
-abbrev judged : tie.After-log-length → tie.After-refusal-of-lists
+abbrev judged : tie.After-log_length-length → tie.After-refusal_of_lists-refusal
 judged c = c.before.before
 
-abbrev entry : tie.After-slice-known → tie.Start
+abbrev entry : tie.After-slice_known-1 → tie.Start
 entry c = c.before.before.before
 
 -- the theorems that the contract carries
-carried : (c : tie.After-slice-known)
-    → LogReadAgain c.before.before.before.args.k c.before.before.before.args.numbers.now
-    c.before.before.before.args.times.now
+carried : (c : tie.After-slice_known-1)
+    → LogReadAgain c.args.k c.args.numbers.now
+    c.args.times.now
     × LinesWrittenAsGiven
 carried c =
-    let a = c.before.before.before.args in
-    let fits = below-fits w64 a.times.now c.before.shared-slice-known2.given in
+    let a = c.args in
+    let fits = below-fits w64 a.times.now c.shared_slice_known-2-1.given in
     (read_again a.k a.numbers.now a.times.now fits, written-as-given)
 
-returns : tie.Need-returns
+returns : tie.Need-returns-then-refusal-ne0
 returns c =
     let a = (entry c.before.before).args in
-    let r = c.before.refusal-of-lists in (
-      output-refused _ _ a.out.now r.result r.ensures c.if1.true,
+    let r = c.refusal_of_lists-refusal in (
+      output-refused _ _ a.out.now r.result r.ensures c.if-refusal-ne0.true,
       carried c.before.before,
     )
 
-log-length-requires : tie.Need-log-length-requires
+log-length-requires : tie.Need-log_length-length-requires
 log-length-requires c κs =
     let a = (entry c.before.before).args in
-    let none = sym c.before.refusal-of-lists.ensures ∙ c.if1.false in
+    let none = sym c.refusal_of_lists-refusal.ensures ∙ c.if-refusal-ne0.false in
     let f = lists-fit a.k a.numbers.now a.times.now none in
     (f.same, f.few)
 
-returns-2 : tie.Need-returns-2
+returns-2 : tie.Need-returns-then-out-length
 returns-2 c =
     let a = (entry (judged c.before).before).args in
-    let none = sym c.before.before.before.refusal-of-lists.ensures ∙ c.before.before.if1.false in
-    let e = c.before.log-length.ensures.0 in (
-      output-short _ _ a.out.now none (omega (arith, c.if2.true)),
+    let none = sym c.refusal_of_lists-refusal.ensures ∙ c.if-refusal-ne0.false in
+    let e = c.log_length-length.ensures.0 in (
+      output-short _ _ a.out.now none (omega (arith, c.if-out-length.true)),
       carried (judged c.before).before,
     )
 
-put-lines-requires : tie.Need-put-lines-requires
+put-lines-requires : tie.Need-put_lines-requires
 put-lines-requires c κs =
     let a = (entry (judged (counted c)).before).args in
-    let none = sym (judged (counted c)).refusal-of-lists.ensures ∙ c.before.before.before.if1.false in
+    let none = sym (judged (counted c)).refusal_of_lists-refusal.ensures ∙ c.if-refusal-ne0.false in
     let f = lists-fit a.k a.numbers.now a.times.now none in
-    let e = c.before.before.log-length.ensures.0 in
-    (f.same, omega (arith, c.before.if2.false))
+    let e = c.log_length-length.ensures.0 in
+    (f.same, omega (arith, c.if-out-length.false))
 
-cast-t13 : tie.Need-overflow-cast-t13
-cast-t13 c = omega (arith, (counted c.before.before.before).log-length.ensures.1)
+cast-t13 : tie.Need-overflow_cast-result
+cast-t13 c = omega (arith, (counted c.before.before.before).log_length-length.ensures.1)
 
-returns-3 : tie.Need-returns-3
+returns-3 : tie.Need-returns
 returns-3 c =
     let a = (entry (judged (counted c.before.before.before)).before).args in
-    let r = (judged (counted c.before.before.before)).refusal-of-lists in
-    let none = sym r.ensures ∙ (counted c.before.before.before).before.if1.false in
-    let length = (counted c.before.before.before).log-length in
+    let r = (judged (counted c.before.before.before)).refusal_of_lists-refusal in
+    let none = sym r.ensures ∙ (counted c.before.before.before).if-refusal-ne0.false in
+    let length = (counted c.before.before.before).log_length-length in
     let e = length.ensures.0 in
-    let room = c.before.before.before.before.if2.false in (
-      output-written _ _ a.out.now none (omega (arith, room)) e c.before.before.put-lines.ensures,
+    let room = c.if-out-length.false in (
+      output-written _ _ a.out.now none (omega (arith, room)) e c.put_lines.ensures,
       carried (judged (counted c.before.before.before)).before,
     )
 

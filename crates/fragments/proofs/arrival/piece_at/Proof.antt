@@ -8,12 +8,12 @@ use Rattle.fragments.proofs.arrival.piece_at.Tie as tie
 
 returns : tie.Need-returns
 returns c =
-    let a = c.before.before.before.before.before.args in
+    let a = c.args in
     sym (pieces-get_or a.numbers.now a.times.now a.lengths.now a.mores.now a.offsets.now a.i
-    c.before.before.before.before.before.requires.0)
+    c.requires.0)
 
-pub piece-at-spec : {M : Type 1} → statement M
-piece-at-spec =
+pub piece_at_spec : {M : Type 1} → statement M
+piece_at_spec =
     tie.close
     (tie.spec
     (λ c. search rules) (λ c. search rules) (λ c. search rules) (λ c. search rules) (λ c. search rules)

@@ -14,39 +14,39 @@ use Rattle.fragments.proofs.cover.complete.Statement.{statement}
 use Rattle.fragments.proofs.cover.complete.Tie as tie
 
 -- the start, from where the first place is read
-abbrev start : tie.After-index-of → tie.Start
-start c = let k = c.before.before.before.before in k.before.before.before.before
+abbrev start : tie.After-index_of → tie.Start
+start c = c.before.before.before.before.before.before.before.before
 
 -- the arrivals
 abbrev pieces : tie.Start → List Piece
 pieces s = let a = s.args in pieces_of a.numbers.now a.times.now a.lengths.now a.mores.now a.offsets.now
 
 -- the arrival that is read
-read : (c : tie.After-piece-at) → c.piece-at.result ≡ get_or (pieces (start c.before)) (get_or (start c.before).args.run.now 0 0)
+read : (c : tie.After-piece_at-first) → c.piece_at-first.result ≡ get_or (pieces (start c.before)) (get_or (start c.before).args.run.now 0 0)
     no_piece
-read c = c.piece-at.ensures ∙ ap (λ i. get_or (pieces (start c.before)) i no_piece) c.before.index_of.ensures
+read c = c.piece_at-first.ensures ∙ ap (λ i. get_or (pieces (start c.before)) i no_piece) c.index_of.ensures
 
-piece-at-requires : tie.Need-piece-at-requires
+piece-at-requires : tie.Need-piece_at-first-requires
 piece-at-requires c κs =
     let s = start c in
     let a = s.args in (
       omega (
         arith,
         c.index_of.ensures,
-        s.pre.1.inside 0 s.pre.2,
+        s.requires.1.inside 0 s.requires.2,
         pieces-length a.numbers.now a.times.now a.lengths.now a.mores.now a.offsets.now,
       ),
-      s.pre.0,
+      s.requires.0,
     )
 
-returns : tie.Need-returns
+returns : tie.Need-returns-then-is_whole
 returns c =
-    let p = c.before.before in
-    let s = start p.before in
-    whole-found _ _ _ s.pre.1 0 p.piece-at.result s.pre.2 (read p) (sym c.before.is_whole.ensures ∙ c.if1.true)
+    let p = c in
+    let s = start p.before.before.before in
+    whole-found _ _ _ s.requires.1 0 p.piece_at-first.result s.requires.2 (read p.before.before) (sym c.is_whole.ensures ∙ c.if-is_whole.true)
 
-pub complete-spec : {M : Type 1} → statement M
-complete-spec =
+pub complete_spec : {M : Type 1} → statement M
+complete_spec =
     tie.close
     (tie.spec
     (λ c. search rules)

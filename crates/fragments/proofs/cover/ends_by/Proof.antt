@@ -4,11 +4,11 @@ use borrow.Author.Rules.{rules}
 use Rattle.fragments.proofs.cover.ends_by.Statement.{statement}
 use Rattle.fragments.proofs.cover.ends_by.Tie as tie
 
-returns : tie.Need-returns
-returns c = simp (ne_eqb _ _ c.if1.true)
+returns : tie.Need-returns-then-piece-ne0
+returns c = simp (ne_eqb _ _ c.if-piece-ne0.true)
 
-returns-2 : tie.Need-returns-2
-returns-2 c = simp (eq-eqb _ _ c.before.if1.false, c.piece-end.ensures)
+returns-2 : tie.Need-returns
+returns-2 c = simp (eq-eqb _ _ c.if-piece-ne0.false, c.piece_end.ensures)
 
-pub ends-by-spec : {M : Type 1} → statement M
-ends-by-spec = tie.close (tie.spec returns (λ c κs. search rules) returns-2)
+pub ends_by_spec : {M : Type 1} → statement M
+ends_by_spec = tie.close (tie.spec returns (λ c κs. search rules) returns-2)

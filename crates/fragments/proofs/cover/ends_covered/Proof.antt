@@ -16,75 +16,75 @@ use Rattle.fragments.proofs.cover.ends_covered.Statement.{statement}
 use Rattle.fragments.proofs.cover.ends_covered.Tie as tie
 
 -- m₀ is the value where the loop begins, m the one at its head
-abbrev invariant-loop : tie.invariant-loop
-invariant-loop numbers times lengths mores offsets s run reach m₀ m =
+abbrev invariant-loop-m : tie.invariant-loop-m
+invariant-loop-m numbers times lengths mores offsets s run reach m₀ m =
     (m ≤ length run) × Unended (pieces_of numbers times lengths mores offsets) s run reach m
 
-abbrev decreases-loop : tie.decreases-loop
-decreases-loop numbers times lengths mores offsets s run reach m₀ m = m
+abbrev decreases-loop-m : tie.decreases-loop-m
+decreases-loop-m numbers times lengths mores offsets s run reach m₀ m = m
 
 -- the start, from the loop
-abbrev start : tie.At-loop invariant-loop decreases-loop → tie.Start invariant-loop decreases-loop
-start c = let r = c.before in r.before.before.before.before.before.before.before
+abbrev start : tie.At-loop-m invariant-loop-m decreases-loop-m → tie.Start invariant-loop-m decreases-loop-m
+start c = c.before.before.before.before.before.before.before.before
 
 -- the arrivals
-abbrev pieces : tie.At-loop invariant-loop decreases-loop → List Piece
+abbrev pieces : tie.At-loop-m invariant-loop-m decreases-loop-m → List Piece
 pieces c = let a = (start c).args in pieces_of a.numbers.now a.times.now a.lengths.now a.mores.now a.offsets.now
 
 -- the place that is read is there
-inside : (c : tie.In-loop invariant-loop decreases-loop) → c.before.loop.m - 1 < length (start c.before).args.run.now
-inside c = omega (arith, c.before.loop.invariant.0, c.loop-test.true)
+inside : (c : tie.In-loop-m invariant-loop-m decreases-loop-m) → c.loop-m.m - 1 < length (start c.before).args.run.now
+inside c = omega (arith, c.loop-m.invariant.0, c.loop-m-test.true)
 
 -- the arrival that is read
-read : (c : tie.After-piece-at invariant-loop decreases-loop) → let l = c.before.before.before.before in
-    c.piece-at.result ≡ get_or (pieces l) (get_or (start l).args.run.now (l.loop.m - 1) 0) no_piece
+read : (c : tie.After-piece_at-piece invariant-loop-m decreases-loop-m) → let l = c in
+    c.piece_at-piece.result ≡ get_or (pieces l.before.before.before.before) (get_or (start l.before.before.before.before).args.run.now (l.loop-m.m - 1) 0) no_piece
 read c =
-    let l = c.before.before.before.before in c.piece-at.ensures ∙ ap (λ i. get_or (pieces l) i no_piece) c.before.index_of.ensures
+    let l = c in c.piece_at-piece.ensures ∙ ap (λ i. get_or (pieces l.before.before.before.before) i no_piece) c.index_of.ensures
 
-loop-holds : tie.Need-loop-init invariant-loop decreases-loop
-loop-holds c = (omega arith, unended-start _ _ _ c.before.before.before.before.before.before.before.requires.1 c.reach_of.result)
+loop-holds : tie.Need-loop-m-init invariant-loop-m decreases-loop-m
+loop-holds c = (omega arith, unended-start _ _ _ c.requires.1 c.reach_of-reach.result)
 
-piece-at-requires : tie.Need-piece-at-requires invariant-loop decreases-loop
+piece-at-requires : tie.Need-piece_at-piece-requires invariant-loop-m decreases-loop-m
 piece-at-requires c κs =
-    let l = c.before.before.before in
-    let a = (start l).args in (
+    let l = c in
+    let a = (start l.before.before.before).args in (
       omega (
         arith,
         c.index_of.ensures,
-        (start l).requires.1.inside (l.loop.m - 1) (inside c.before.before),
+        (start l.before.before.before).requires.1.inside (l.loop-m.m - 1) (inside c.before.before),
         pieces-length a.numbers.now a.times.now a.lengths.now a.mores.now a.offsets.now,
       ),
-      (start l).requires.0,
+      (start l.before.before.before).requires.0,
     )
 
-returns : tie.Need-returns invariant-loop decreases-loop
+returns : tie.Need-returns-then-ends_by invariant-loop-m decreases-loop-m
 returns c =
-    let l = c.before.before.before.before.before.before in
-    ends_found _ _ _ (start l).requires.1 l.before.reach_of.result (l.loop.m - 1) c.before.before.piece-at.result
+    let l = c in
+    ends_found _ _ _ (start l.before.before.before.before.before.before).requires.1 l.reach_of-reach.result (l.loop-m.m - 1) c.piece_at-piece.result
     (inside c.before.before.before.before.before) (read c.before.before)
-    (sym c.before.ends_by.ensures ∙ c.if1.true) l.before.reach_of.ensures
+    (sym c.ends_by.ensures ∙ c.if-ends_by.true) l.reach_of-reach.ensures
 
-loop-again : tie.Need-loop-preserved invariant-loop decreases-loop
+loop-again : tie.Need-loop-m-preserved invariant-loop-m decreases-loop-m
 loop-again c =
-    let l = c.before.before.before.before.before.before in (
-      omega (arith, l.loop.invariant.0),
-      unended-next _ _ _ (start l).requires.1 l.before.reach_of.result l.loop.m c.before.before.piece-at.result
-          c.before.before.before.before.before.loop-test.true (read c.before.before)
-          (sym c.before.ends_by.ensures ∙ c.if1.false) l.loop.invariant.1,
+    let l = c in (
+      omega (arith, l.loop-m.invariant.0),
+      unended-next _ _ _ (start l.before.before.before.before.before.before).requires.1 l.reach_of-reach.result l.loop-m.m c.piece_at-piece.result
+          c.loop-m-test.true (read c.before.before)
+          (sym c.ends_by.ensures ∙ c.if-ends_by.false) l.loop-m.invariant.1,
     )
 
-returns-2 : tie.Need-returns-2 invariant-loop decreases-loop
+returns-2 : tie.Need-returns invariant-loop-m decreases-loop-m
 returns-2 c =
-    let l = c.before in
-    ends-none _ _ _ (start l).requires.1 l.before.reach_of.result l.loop.m c.loop-test.false l.loop.invariant.1
-    l.before.reach_of.ensures
+    let l = c in
+    ends-none _ _ _ (start l.before).requires.1 l.reach_of-reach.result l.loop-m.m c.loop-m-test.false l.loop-m.invariant.1
+    l.reach_of-reach.ensures
 
-pub ends-covered-spec : {M : Type 1} → statement M
-ends-covered-spec =
+pub ends_covered_spec : {M : Type 1} → statement M
+ends_covered_spec =
     tie.close
     (tie.spec
-    invariant-loop
-    decreases-loop
+    invariant-loop-m
+    decreases-loop-m
     (λ c κs. search rules)
     loop-holds
     (λ c. search rules) (λ c. search rules)

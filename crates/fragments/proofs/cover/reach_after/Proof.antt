@@ -4,20 +4,20 @@ use borrow.Author.Rules.{rules}
 use Rattle.fragments.proofs.cover.reach_after.Statement.{statement}
 use Rattle.fragments.proofs.cover.reach_after.Tie as tie
 
-returns : tie.Need-returns
-returns c = simp (lt-leb _ _ c.if1.true)
+returns : tie.Need-returns-then-reach-piece
+returns c = simp (lt-leb _ _ c.if-reach-piece.true)
 
-returns-2 : tie.Need-returns-2
+returns-2 : tie.Need-returns-then-reach-piece_end
 returns-2 c =
-    let e = c.before.before.piece-end.ensures in
-    simp (le-leb _ _ c.before.before.before.if1.false, lt-ltb _ _ (rw e at c.before.if2.true), c.piece-end2.ensures)
+    let e = c.piece_end.ensures in
+    simp (le-leb _ _ c.if-reach-piece.false, lt-ltb _ _ (rw e at c.if-reach-piece_end.true), c.piece_end-then-reach-piece_end.ensures)
 
-returns-3 : tie.Need-returns-3
+returns-3 : tie.Need-returns
 returns-3 c =
-    let e = c.before.piece-end.ensures in
-    simp (le-leb _ _ c.before.before.if1.false, le-ltb _ _ (rw e at c.if2.false))
+    let e = c.piece_end.ensures in
+    simp (le-leb _ _ c.if-reach-piece.false, le-ltb _ _ (rw e at c.if-reach-piece_end.false))
 
-pub reach-after-spec : {M : Type 1} → statement M
-reach-after-spec =
+pub reach_after_spec : {M : Type 1} → statement M
+reach_after_spec =
     tie.close
     (tie.spec (λ c. search rules) (λ c. search rules) returns (λ c κs. search rules) (λ c κs. search rules) returns-2 returns-3)

@@ -15,52 +15,52 @@ use Rattle.fragments.proofs.cover.reach_of.Statement.{statement}
 use Rattle.fragments.proofs.cover.reach_of.Tie as tie
 
 -- r₀ and m₀ are the values where the loop begins, r and m those at its head
-abbrev invariant-loop : tie.invariant-loop
-invariant-loop numbers times lengths mores offsets s run r₀ m₀ r m = OnePass (pieces_of numbers times lengths mores offsets) s run r m
+abbrev invariant-loop-m : tie.invariant-loop-m
+invariant-loop-m numbers times lengths mores offsets s run r₀ m₀ r m = OnePass (pieces_of numbers times lengths mores offsets) s run r m
 
-abbrev decreases-loop : tie.decreases-loop
-decreases-loop numbers times lengths mores offsets s run r₀ m₀ r m = length run - m
+abbrev decreases-loop-m : tie.decreases-loop-m
+decreases-loop-m numbers times lengths mores offsets s run r₀ m₀ r m = length run - m
 
 -- the start, from the loop
-abbrev start : tie.At-loop invariant-loop decreases-loop → tie.Start invariant-loop decreases-loop
+abbrev start : tie.At-loop-m invariant-loop-m decreases-loop-m → tie.Start invariant-loop-m decreases-loop-m
 start c = c.before.before.before.before.before.before.before
 
 -- the arrivals
-abbrev pieces : tie.At-loop invariant-loop decreases-loop → List Piece
+abbrev pieces : tie.At-loop-m invariant-loop-m decreases-loop-m → List Piece
 pieces c = let a = (start c).args in pieces_of a.numbers.now a.times.now a.lengths.now a.mores.now a.offsets.now
 
-loop-holds : tie.Need-loop-init invariant-loop decreases-loop
-loop-holds c = pass-start _ _ _ c.before.before.before.before.before.before.requires.1
+loop-holds : tie.Need-loop-m-init invariant-loop-m decreases-loop-m
+loop-holds c = pass-start _ _ _ c.requires.1
 
-piece-at-requires : tie.Need-piece-at-requires invariant-loop decreases-loop
+piece-at-requires : tie.Need-piece_at-piece-requires invariant-loop-m decreases-loop-m
 piece-at-requires c κs =
-    let l = c.before.before.before in
-    let a = (start l).args in (
+    let l = c in
+    let a = (start l.before.before.before).args in (
       omega (
         arith,
         c.index_of.ensures,
-        (start l).requires.1.inside l.loop.m c.before.before.loop-test.true,
+        (start l.before.before.before).requires.1.inside l.loop-m.m c.loop-m-test.true,
         pieces-length a.numbers.now a.times.now a.lengths.now a.mores.now a.offsets.now,
       ),
-      (start l).requires.0,
+      (start l.before.before.before).requires.0,
     )
 
-loop-again : tie.Need-loop-preserved invariant-loop decreases-loop
+loop-again : tie.Need-loop-m-preserved invariant-loop-m decreases-loop-m
 loop-again c =
-    let l = c.before.before.before.before.before in
-    let p = c.before.piece-at in
-    pass-next _ _ _ (start l).requires.1 l.loop.reach l.loop.m _ p.result c.before.before.before.before.loop-test.true
-    (p.ensures ∙ ap (λ i. get_or (pieces l) i no_piece) c.before.before.index_of.ensures) c.reach-after.ensures l.loop.invariant
+    let l = c in
+    let p = c.piece_at-piece in
+    pass-next _ _ _ (start l.before.before.before.before.before).requires.1 l.loop-m.reach l.loop-m.m _ p.result c.loop-m-test.true
+    (p.ensures ∙ ap (λ i. get_or (pieces l.before.before.before.before.before) i no_piece) c.index_of.ensures) c.reach_after-reach.ensures l.loop-m.invariant
 
-returns : tie.Need-returns invariant-loop decreases-loop
-returns c = let l = c.before in pass-done _ _ _ (start l).requires.1 l.loop.reach l.loop.m c.loop-test.false l.loop.invariant
+returns : tie.Need-returns invariant-loop-m decreases-loop-m
+returns c = let l = c in pass-done _ _ _ (start l.before).requires.1 l.loop-m.reach l.loop-m.m c.loop-m-test.false l.loop-m.invariant
 
-pub reach-of-spec : {M : Type 1} → statement M
-reach-of-spec =
+pub reach_of_spec : {M : Type 1} → statement M
+reach_of_spec =
     tie.close
     (tie.spec
-    invariant-loop
-    decreases-loop
+    invariant-loop-m
+    decreases-loop-m
     loop-holds
     (λ c. search rules) (λ c. search rules)
     (λ c κs. search rules)

@@ -39,33 +39,33 @@ over-all : (xs old : List ℕ) → length old ≤ length xs → over xs old ≡ 
 over-all xs old h = ap (λ (l : List ℕ). xs ++ l) (drop_of_length-le old h) ∙ append-nil xs
 
 -- flagged₀, used₀, e₀ and i₀ are the values where the loop begins, flagged, used, e and i those at its head
-abbrev invariant-loop : tie.invariant-loop
-invariant-loop numbers times lengths mores offsets flagged₀ used₀ seen₀ e₀ i₀ flagged used seen e i =
+abbrev invariant-loop-i : tie.invariant-loop-i
+invariant-loop-i numbers times lengths mores offsets flagged₀ used₀ seen₀ e₀ i₀ flagged used seen e i =
     (i ≤ length numbers) × (flagged ≡ take i (flags (pieces_of numbers times lengths mores offsets)) ++ drop i flagged₀)
     × (used ≡ take i (usable (pieces_of numbers times lengths mores offsets)) ++ drop i used₀)
     × (e ≡ expected (take i (pieces_of numbers times lengths mores offsets)))
     × SeenTo (pieces_of numbers times lengths mores offsets) i seen
 
-abbrev decreases-loop : tie.decreases-loop
-decreases-loop numbers times lengths mores offsets flagged₀ used₀ seen₀ e₀ i₀ flagged used seen e i = length numbers - i
+abbrev decreases-loop-i : tie.decreases-loop-i
+decreases-loop-i numbers times lengths mores offsets flagged₀ used₀ seen₀ e₀ i₀ flagged used seen e i = length numbers - i
 
 -- the place where the arrival is read, from where it is known to be a copy or not
-abbrev read : tie.After-is-copy invariant-loop decreases-loop → tie.After-piece-at invariant-loop decreases-loop
+abbrev read : tie.After-is_copy-copy invariant-loop-i decreases-loop-i → tie.After-piece_at-piece invariant-loop-i decreases-loop-i
 read c = c.before.before.before
 
 -- the start, from where the first five lists are known and from the loop
-abbrev entry : tie.After-shared-slice-known5 invariant-loop decreases-loop → tie.Start invariant-loop decreases-loop
+abbrev entry : tie.After-shared_slice_known-5-1 invariant-loop-i decreases-loop-i → tie.Start invariant-loop-i decreases-loop-i
 entry c = c.before.before.before.before.before
 
-abbrev start : tie.At-loop invariant-loop decreases-loop → tie.Start invariant-loop decreases-loop
-start c = entry c.before.before.before
+abbrev start : tie.At-loop-i invariant-loop-i decreases-loop-i → tie.Start invariant-loop-i decreases-loop-i
+start c = c.before.before.before.before.before.before.before.before
 
 -- the arrivals
-abbrev pieces : tie.At-loop invariant-loop decreases-loop → List Piece
+abbrev pieces : tie.At-loop-i invariant-loop-i decreases-loop-i → List Piece
 pieces c = let a = (start c).args in pieces_of a.numbers.now a.times.now a.lengths.now a.mores.now a.offsets.now
 
 -- there are as many of them, of flags and of usable values as of numbers
-many : (c : tie.At-loop invariant-loop decreases-loop) → let n = length (start c).args.numbers.now in
+many : (c : tie.At-loop-i invariant-loop-i decreases-loop-i) → let n = length (start c).args.numbers.now in
     (length (pieces c) ≡ n) × (length (flags (pieces c)) ≡ n) × (length (usable (pieces c)) ≡ n)
 many c =
     let a = (start c).args in
@@ -73,127 +73,127 @@ many c =
     (e, flags-many (pieces c) ∙ e, usable-many (pieces c) ∙ e)
 
 -- the lists keep their lengths
-kept-flagged : (c : tie.At-loop invariant-loop decreases-loop) → length c.loop.flagged ≡ length (start c).args.flagged.now
+kept-flagged : (c : tie.At-loop-i invariant-loop-i decreases-loop-i) → length c.loop-i.flagged ≡ length (start c).args.flagged.now
 kept-flagged c =
     let m = many c in
-    ap length c.loop.invariant.1 ∙ fill-length (flags (pieces c)) (start c).args.flagged.now c.loop.i (omega arith)
+    ap length c.loop-i.invariant.1 ∙ fill-length (flags (pieces c)) (start c).args.flagged.now c.loop-i.i (omega arith)
     (omega (arith, (start c).requires.3))
 
-kept-used : (c : tie.At-loop invariant-loop decreases-loop) → length c.loop.used ≡ length (start c).args.used.now
+kept-used : (c : tie.At-loop-i invariant-loop-i decreases-loop-i) → length c.loop-i.used ≡ length (start c).args.used.now
 kept-used c =
     let m = many c in
-    ap length c.loop.invariant.2 ∙ fill-length (usable (pieces c)) (start c).args.used.now c.loop.i (omega arith)
+    ap length c.loop-i.invariant.2 ∙ fill-length (usable (pieces c)) (start c).args.used.now c.loop-i.i (omega arith)
     (omega (arith, (start c).requires.4))
 
 -- the number of the arrival that is read lies in 1 to 4,096
-within : (c : tie.After-piece-at invariant-loop decreases-loop) → (1 ≤ c.piece-at.result.number) × (c.piece-at.result.number ≤ sent_most)
+within : (c : tie.After-piece_at-piece invariant-loop-i decreases-loop-i) → (1 ≤ c.piece_at-piece.result.number) × (c.piece_at-piece.result.number ≤ sent_most)
 within c =
-    let l = c.before.before in
-    let m = many l in
-    rw c.piece-at.ensures (piece-within sent_most _ _ _ _ _ (start l).requires.1 l.loop.i (omega (arith, c.before.loop-test.true)))
+    let l = c in
+    let m = many l.before.before in
+    rw c.piece_at-piece.ensures (piece-within sent_most _ _ _ _ _ (start l.before.before).requires.1 l.loop-i.i (omega (arith, c.loop-i-test.true)))
 
-loop-holds : tie.Need-loop-init invariant-loop decreases-loop
+loop-holds : tie.Need-loop-i-init invariant-loop-i decreases-loop-i
 loop-holds c = (search rules, refl, refl, expected-none, seen_start _)
 
-piece-at-requires : tie.Need-piece-at-requires invariant-loop decreases-loop
-piece-at-requires c κs = (c.loop-test.true, (start c.before).pre.0)
+piece-at-requires : tie.Need-piece_at-piece-requires invariant-loop-i decreases-loop-i
+piece-at-requires c κs = (c.loop-i-test.true, (start c.before).requires.0)
 
-sub-p : tie.Need-overflow-sub-p invariant-loop decreases-loop
+sub-p : tie.Need-overflow_sub-p invariant-loop-i decreases-loop-i
 sub-p c = omega (arith, within c.before)
 
-cast-p : tie.Need-overflow-cast-p invariant-loop decreases-loop
+cast-p : tie.Need-overflow_cast-p invariant-loop-i decreases-loop-i
 cast-p c = omega (arith, within c.before)
 
-array-read-old : tie.Need-array-read-old invariant-loop decreases-loop
-array-read-old c = omega (arith, within c.before, c.before.before.before.loop.invariant.4.long)
+array-read-old : tie.Need-bounds-seen-p invariant-loop-i decreases-loop-i
+array-read-old c = omega (arith, within c.before, c.loop-i.invariant.4.long)
 
-slice-read-is-copy : tie.Need-slice-read-is-copy invariant-loop decreases-loop
+slice-read-is-copy : tie.Need-bounds-flagged-i invariant-loop-i decreases-loop-i
 slice-read-is-copy c =
-    let l = c.before.before.before.before in omega (arith, kept-flagged l, (start l).requires.3, c.before.before.before.loop-test.true)
+    let l = c in omega (arith, kept-flagged l.before.before.before.before, (start l.before.before.before.before).requires.3, c.loop-i-test.true)
 
-array-write-seen : tie.Need-array-write-seen invariant-loop decreases-loop
-array-write-seen c = omega (arith, within c.before.before.before.before, (read c.before).before.before.loop.inv.4.long)
+array-write-seen : tie.Need-bounds-seen-p-in-loop-i invariant-loop-i decreases-loop-i
+array-write-seen c = omega (arith, within c.before.before.before.before, (read c.before).loop-i.invariant.4.long)
 
-slice-write-flagged : tie.Need-slice-write-flagged invariant-loop decreases-loop
+slice-write-flagged : tie.Need-bounds-flagged-i-in-loop-i invariant-loop-i decreases-loop-i
 slice-write-flagged c =
     let l = (read c.before.before).before.before in
-    omega (arith, kept-flagged l, (start l).pre.3, (read c.before.before).before.loop-test.taken)
+    omega (arith, kept-flagged l, (start l).requires.3, (read c.before.before).loop-i-test.true)
 
-slice-read-usable-of : tie.Need-slice-read-usable-of invariant-loop decreases-loop
+slice-read-usable-of : tie.Need-bounds-used-i invariant-loop-i decreases-loop-i
 slice-read-usable-of c =
     let l = (read c.before.before.before).before.before in
-    omega (arith, kept-used l, (start l).pre.4, (read c.before.before.before).before.loop-test.taken)
+    omega (arith, kept-used l, (start l).requires.4, (read c.before.before.before).loop-i-test.true)
 
-slice-write-used : tie.Need-slice-write-used invariant-loop decreases-loop
+slice-write-used : tie.Need-bounds-used-i-in-loop-i invariant-loop-i decreases-loop-i
 slice-write-used c =
     let l = (read c.before.before.before.before).before.before in
-    omega (arith, kept-used l, (start l).pre.4, (read c.before.before.before.before).before.loop-test.taken)
+    omega (arith, kept-used l, (start l).requires.4, (read c.before.before.before.before).loop-i-test.true)
 
-expected-after-requires : tie.Need-expected-after-requires invariant-loop decreases-loop
+expected-after-requires : tie.Need-expected_after-next-requires invariant-loop-i decreases-loop-i
 expected-after-requires c κs = omega (arith, within (read c.before.before.before.before))
 
-add-i : tie.Need-overflow-add-i invariant-loop decreases-loop
+add-i : tie.Need-overflow_add-i invariant-loop-i decreases-loop-i
 add-i c =
     let r = read c.before.before.before.before.before in
-    omega (arith, r.before.loop-test.taken, (start r.before.before).pre.2)
+    omega (arith, r.loop-i-test.true, (start r.before.before).requires.2)
 
-loop-less : tie.Need-loop-smaller invariant-loop decreases-loop
-loop-less c = omega (arith, (read c.before.before.before.before.before).before.loop-test.taken)
+loop-less : tie.Need-loop-i-smaller invariant-loop-i decreases-loop-i
+loop-less c = omega (arith, (read c.before.before.before.before.before).loop-i-test.true)
 
-loop-again : tie.Need-loop-preserved invariant-loop decreases-loop
+loop-again : tie.Need-loop-i-preserved invariant-loop-i decreases-loop-i
 loop-again c =
-    let k = c.before.before.before.before.before in
-    let r = k.before.before.before in
-    let l = r.before.before in
-    let b = r.piece-at in
-    let found = k.is-copy in
-    let a = (start l).args in
-    let q = (start l).requires in
-    let xs = pieces l in
-    let i = l.loop.i in
-    let m = many l in
-    let v = within r in
-    let h : i < length xs = omega (arith, r.before.loop-test.true) in
+    let k = c in
+    let r = k in
+    let l = r in
+    let b = r.piece_at-piece in
+    let found = k.is_copy-copy in
+    let a = (start l.before.before.before.before.before.before.before.before.before.before).args in
+    let q = (start l.before.before.before.before.before.before.before.before.before.before).requires in
+    let xs = pieces l.before.before.before.before.before.before.before.before.before.before in
+    let i = l.loop-i.i in
+    let m = many l.before.before.before.before.before.before.before.before.before.before in
+    let v = within r.before.before.before.before.before.before.before.before in
+    let h : i < length xs = omega (arith, r.loop-i-test.true) in
     let copy =
-    copy-here b.result (take i xs) found.result (get_or l.loop.flagged i 0) (get_or l.loop.seen (b.result.number - 1) 0)
-    found.ensures (read_left (flags xs) a.flagged.now i (omega arith) l.loop.invariant.1 ∙ rw b.ensures (q.5.at i h).0)
-    (l.loop.invariant.4.at b.result.number v.0 v.1) in (
+    copy-here b.result (take i xs) found.result (get_or l.loop-i.flagged i 0) (get_or l.loop-i.seen (b.result.number - 1) 0)
+    found.ensures (read_left (flags xs) a.flagged.now i (omega arith) l.loop-i.invariant.1 ∙ rw b.ensures (q.5.at i h).0)
+    (l.loop-i.invariant.4.at b.result.number v.0 v.1) in (
       omega arith,
-      fill-next (flags xs) a.flagged.now i 0 (omega arith) (omega (arith, q.3)) l.loop.invariant.1
-          (flag-here xs i b.result l.loop.expected found.result h b.ensures copy l.loop.invariant.3 _
-          c.before.before.before.flag-of.ensures),
-      fill-next (usable xs) a.used.now i 0 (omega arith) (omega (arith, q.4)) l.loop.invariant.2
-          (usable-here xs i b.result l.loop.expected found.result h b.ensures copy l.loop.invariant.3 _
-          (get_or l.loop.used i 0) c.before.usable-of.ensures
-          (read_left (usable xs) a.used.now i (omega arith) l.loop.invariant.2 ∙ rw b.ensures (q.5.at i h).1)),
-      expected-here xs i b.result l.loop.expected found.result h b.ensures copy l.loop.invariant.3 _
-          c.expected-after.ensures,
-      seen_next xs i _ b.result h b.ensures v.0 v.1 c.before.before.before.before.seen-after.ensures l.loop.invariant.4,
+      fill-next (flags xs) a.flagged.now i 0 (omega arith) (omega (arith, q.3)) l.loop-i.invariant.1
+          (flag-here xs i b.result l.loop-i.expected found.result h b.ensures copy l.loop-i.invariant.3 _
+          c.flag_of.ensures),
+      fill-next (usable xs) a.used.now i 0 (omega arith) (omega (arith, q.4)) l.loop-i.invariant.2
+          (usable-here xs i b.result l.loop-i.expected found.result h b.ensures copy l.loop-i.invariant.3 _
+          (get_or l.loop-i.used i 0) c.usable_of.ensures
+          (read_left (usable xs) a.used.now i (omega arith) l.loop-i.invariant.2 ∙ rw b.ensures (q.5.at i h).1)),
+      expected-here xs i b.result l.loop-i.expected found.result h b.ensures copy l.loop-i.invariant.3 _
+          c.expected_after-next.ensures,
+      seen_next xs i _ b.result h b.ensures v.0 v.1 c.seen_after.ensures l.loop-i.invariant.4,
     )
 
-same_length : tie.Need-same-length invariant-loop decreases-loop
+same_length : tie.Need-shape_of-flagged invariant-loop-i decreases-loop-i
 same_length c = kept-flagged c.before
 
-same-length-2 : tie.Need-same-length-2 invariant-loop decreases-loop
+same-length-2 : tie.Need-shape_of-used invariant-loop-i decreases-loop-i
 same-length-2 c = kept-used c.before
 
-returns : tie.Need-returns invariant-loop decreases-loop
+returns : tie.Need-returns invariant-loop-i decreases-loop-i
 returns c =
-    let l = c.before in
-    let m = many l in
-    let p = (start l).requires in (
-      fill_done (flags (pieces l)) (start l).args.flagged.now l.loop.i (omega arith) l.loop.invariant.1
-          ∙ over-all (flags (pieces l)) (start l).args.flagged.now (omega (arith, p.3)),
-      fill_done (usable (pieces l)) (start l).args.used.now l.loop.i (omega arith) l.loop.invariant.2
-          ∙ over-all (usable (pieces l)) (start l).args.used.now (omega (arith, p.4)),
+    let l = c in
+    let m = many l.before in
+    let p = (start l.before).requires in (
+      fill_done (flags (pieces l.before)) (start l.before).args.flagged.now l.loop-i.i (omega arith) l.loop-i.invariant.1
+          ∙ over-all (flags (pieces l.before)) (start l.before).args.flagged.now (omega (arith, p.3)),
+      fill_done (usable (pieces l.before)) (start l.before).args.used.now l.loop-i.i (omega arith) l.loop-i.invariant.2
+          ∙ over-all (usable (pieces l.before)) (start l.before).args.used.now (omega (arith, p.4)),
     )
 
-pub fill-flags-and-used-spec : {M : Type 1} → statement M
-fill-flags-and-used-spec =
+pub fill_flags_and_used_spec : {M : Type 1} → statement M
+fill_flags_and_used_spec =
     tie.close
     (tie.spec
-    invariant-loop
-    decreases-loop
+    invariant-loop-i
+    decreases-loop-i
     loop-holds
     piece-at-requires
     sub-p

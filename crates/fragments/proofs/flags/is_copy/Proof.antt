@@ -5,18 +5,18 @@ use mathlib.Core.Path.{sym, ◌∙◌}
 use Rattle.fragments.proofs.flags.is_copy.Statement.{statement}
 use Rattle.fragments.proofs.flags.is_copy.Tie as tie
 
-returns : tie.Need-returns
-returns c = simp (ne_eqb _ _ c.if1.true)
+returns : tie.Need-returns-then-mark-ne0
+returns c = simp (ne_eqb _ _ c.if-mark-ne0.true)
 
-returns-2 : tie.Need-returns-2
+returns-2 : tie.Need-returns-then-is_whole
 returns-2 c =
-    let w = sym c.before.is_whole.ensures ∙ c.if2.true in
-    simp (eq-eqb _ _ c.before.before.if1.false, w)
+    let w = sym c.is_whole.ensures ∙ c.if-is_whole.true in
+    simp (eq-eqb _ _ c.if-mark-ne0.false, w)
 
-returns-3 : tie.Need-returns-3
+returns-3 : tie.Need-returns
 returns-3 c =
-    let w = sym c.before.is_whole.ensures ∙ c.if2.false in
-    simp (eq-eqb _ _ c.before.before.if1.false, w)
+    let w = sym c.is_whole.ensures ∙ c.if-is_whole.false in
+    simp (eq-eqb _ _ c.if-mark-ne0.false, w)
 
-pub is-copy-spec : {M : Type 1} → statement M
-is-copy-spec = tie.close (tie.spec returns (λ c κs. search rules) returns-2 returns-3)
+pub is_copy_spec : {M : Type 1} → statement M
+is_copy_spec = tie.close (tie.spec returns (λ c κs. search rules) returns-2 returns-3)

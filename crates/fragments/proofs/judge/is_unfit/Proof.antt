@@ -8,44 +8,44 @@ use Rattle.fragments.proofs.judge.is_unfit.Statement.{statement}
 use Rattle.fragments.proofs.judge.is_unfit.Tie as tie
 
 -- places: the end of the test of the length, from there the end of the first test
-abbrev first : tie.Else2 → tie.Else1
+abbrev first : tie.Else-piece-eq0 → tie.Else-is_whole
 first c = c.before.before
 
-returns : tie.Need-returns
+returns : tie.Need-returns-then-is_whole
 unfolding is_unfit
-returns c = simp (sym c.before.is_whole.ensures ∙ c.if1.true)
+returns c = simp (sym c.is_whole.ensures ∙ c.if-is_whole.true)
 
-returns-2 : tie.Need-returns-2
+returns-2 : tie.Need-returns-then-piece-eq0
 unfolding is_unfit
-returns-2 c = simp (sym c.before.before.before.is_whole.ensures ∙ c.before.before.if1.false, eq-eqb _ _ c.if2.true)
+returns-2 c = simp (sym c.is_whole.ensures ∙ c.if-is_whole.false, eq-eqb _ _ c.if-piece-eq0.true)
 
-returns-3 : tie.Need-returns-3
+returns-3 : tie.Need-returns-then-piece-eq0-2
 unfolding is_unfit
 returns-3 c =
-    let e = c.before.before.before in
-    let f = first e in
-    let w = sym f.before.is_whole.ensures ∙ f.if1.left in
-    rw (w, ne_eqb _ _ e.if2.false, eq-eqb _ _ c.before.if3.true, c.piece-end.ensures)
+    let e = c in
+    let f = first e.before.before.before in
+    let w = sym f.is_whole.ensures ∙ f.if-is_whole.false in
+    rw (w, ne_eqb _ _ e.if-piece-eq0.false, eq-eqb _ _ c.if-piece-eq0-2.true, c.piece_end.ensures)
 
-returns-4 : tie.Need-returns-4
+returns-4 : tie.Need-returns-then-piece-ne0
 unfolding is_unfit
 returns-4 c =
-    let e = c.before.before.before.before in
-    let f = first e in
-    let w = sym f.before.is_whole.ensures ∙ f.if1.left in
-    rw (w, ne_eqb _ _ e.if2.false, ne_eqb _ _ c.before.before.if3.false, ne_eqb _ _ c.if4.true)
+    let e = c in
+    let f = first e.before.before.before.before in
+    let w = sym f.is_whole.ensures ∙ f.if-is_whole.false in
+    rw (w, ne_eqb _ _ e.if-piece-eq0.false, ne_eqb _ _ c.if-piece-eq0-2.false, ne_eqb _ _ c.if-piece-ne0.true)
 
-returns-5 : tie.Need-returns-5
+returns-5 : tie.Need-returns
 unfolding is_unfit
 returns-5 c =
-    let e = c.before.before.before.before.before in
-    let f = first e in
-    let w = sym f.before.is_whole.ensures ∙ f.if1.left in
-    let m = ne_eqb _ _ c.before.before.before.if3.false in
-    rw (w, ne_eqb _ _ e.if2.false, m, eq-eqb _ _ c.before.if4.false, c.piece-end2.ensures)
+    let e = c in
+    let f = first e.before.before.before.before.before in
+    let w = sym f.is_whole.ensures ∙ f.if-is_whole.false in
+    let m = ne_eqb _ _ c.if-piece-eq0-2.false in
+    rw (w, ne_eqb _ _ e.if-piece-eq0.false, m, eq-eqb _ _ c.if-piece-ne0.false, c.piece_end-2.ensures)
 
-pub is-unfit-spec : {M : Type 1} → statement M
-is-unfit-spec =
+pub is_unfit_spec : {M : Type 1} → statement M
+is_unfit_spec =
     tie.close
     (tie.spec
     (λ c κs. search rules)

@@ -6,24 +6,24 @@ use borrow.Author.Rules.{rules}
 use Rattle.fragments.proofs.judge.judge_piece.Statement.{statement}
 use Rattle.fragments.proofs.judge.judge_piece.Tie as tie
 
-returns : tie.Need-returns
+returns : tie.Need-returns-then-outside
 unfolding judge_piece
-returns c = simp (sym c.before.outside.ensures ∙ c.if1.true)
+returns c = simp (sym c.outside.ensures ∙ c.if-outside.true)
 
-returns-2 : tie.Need-returns-2
+returns-2 : tie.Need-returns-then-is_unfit
 unfolding judge_piece
-returns-2 c = simp (sym c.before.before.before.outside.ensures ∙ c.before.before.if1.false, sym c.before.is-unfit.ensures ∙ c.if2.true)
+returns-2 c = simp (sym c.outside.ensures ∙ c.if-outside.false, sym c.is_unfit.ensures ∙ c.if-is_unfit.true)
 
-returns-3 : tie.Need-returns-3
+returns-3 : tie.Need-returns-then-too_early
 unfolding judge_piece
-returns-3 c = simp (sym c.before.before.before.before.before.outside.ensures ∙ c.before.before.before.before.if1.false, sym c.before.before.before.is-unfit.ensures ∙ c.before.before.if2.false, sym c.before.too-early.ensures ∙ c.if3.true)
+returns-3 c = simp (sym c.outside.ensures ∙ c.if-outside.false, sym c.is_unfit.ensures ∙ c.if-is_unfit.false, sym c.too_early.ensures ∙ c.if-too_early.true)
 
-returns-4 : tie.Need-returns-4
+returns-4 : tie.Need-returns
 unfolding judge_piece
-returns-4 c = simp (sym c.before.before.before.before.before.outside.ensures ∙ c.before.before.before.before.if1.false, sym c.before.before.before.is-unfit.ensures ∙ c.before.before.if2.false, sym c.before.too-early.ensures ∙ c.if3.false)
+returns-4 c = simp (sym c.outside.ensures ∙ c.if-outside.false, sym c.is_unfit.ensures ∙ c.if-is_unfit.false, sym c.too_early.ensures ∙ c.if-too_early.false)
 
-pub judge-piece-spec : {M : Type 1} → statement M
-judge-piece-spec =
+pub judge_piece_spec : {M : Type 1} → statement M
+judge_piece_spec =
     tie.close
     (tie.spec
     (λ c. search rules) (λ c κs. search rules)

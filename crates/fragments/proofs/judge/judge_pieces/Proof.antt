@@ -21,75 +21,75 @@ use Rattle.fragments.proofs.judge.judge_pieces.Statement.{statement}
 use Rattle.fragments.proofs.judge.judge_pieces.Tie as tie
 
 -- reference₀ and i₀ are the values where the loop begins, reference and i those at its head
-abbrev invariant-loop : tie.invariant-loop
-invariant-loop k numbers times lengths mores offsets reference₀ i₀ reference i =
+abbrev invariant-loop-i : tie.invariant-loop-i
+invariant-loop-i k numbers times lengths mores offsets reference₀ i₀ reference i =
     (i ≤ length numbers)
     × (reference ≡ greatest_time (map arrival_of (take i (pieces_of numbers times lengths mores offsets))))
     × (judge_pieces k (pieces_of numbers times lengths mores offsets)
     ≡ first_refusal (drop i (each (judge_after k) (pieces_of numbers times lengths mores offsets))))
 
-abbrev decreases-loop : tie.decreases-loop
-decreases-loop k numbers times lengths mores offsets reference₀ i₀ reference i = length numbers - i
+abbrev decreases-loop-i : tie.decreases-loop-i
+decreases-loop-i k numbers times lengths mores offsets reference₀ i₀ reference i = length numbers - i
 
 -- the start, from the loop
-abbrev start : tie.At-loop invariant-loop decreases-loop → tie.Start invariant-loop decreases-loop
+abbrev start : tie.At-loop-i invariant-loop-i decreases-loop-i → tie.Start invariant-loop-i decreases-loop-i
 start c = c.before.before.before.before.before.before
 
 -- the arrivals
-abbrev pieces : tie.At-loop invariant-loop decreases-loop → List Piece
+abbrev pieces : tie.At-loop-i invariant-loop-i decreases-loop-i → List Piece
 pieces c = let a = (start c).args in pieces_of a.numbers.now a.times.now a.lengths.now a.mores.now a.offsets.now
 
 -- their refusals
-abbrev refusals : tie.At-loop invariant-loop decreases-loop → List ℕ
+abbrev refusals : tie.At-loop-i invariant-loop-i decreases-loop-i → List ℕ
 refusals c = each (judge_after (start c).args.k) (pieces c)
 
 -- there are as many of both as numbers
-many : (c : tie.At-loop invariant-loop decreases-loop) → (length (pieces c) ≡ length (start c).args.numbers.now)
+many : (c : tie.At-loop-i invariant-loop-i decreases-loop-i) → (length (pieces c) ≡ length (start c).args.numbers.now)
     × (length (refusals c) ≡ length (start c).args.numbers.now)
 many c =
     let a = (start c).args in
     let n = pieces-length a.numbers.now a.times.now a.lengths.now a.mores.now a.offsets.now in
     (n, length-each (judge_after a.k) (pieces c) ∙ n)
 
-loop-holds : tie.Need-loop-init invariant-loop decreases-loop
+loop-holds : tie.Need-loop-i-init invariant-loop-i decreases-loop-i
 loop-holds c =
-    let a = c.before.before.before.before.before.args in
+    let a = c.args in
     let s = turn-start a.k (pieces_of a.numbers.now a.times.now a.lengths.now a.mores.now a.offsets.now) in
     (search rules, s.0, s.1)
 
-returns : tie.Need-returns invariant-loop decreases-loop
+returns : tie.Need-returns-then-refusal-ne0 invariant-loop-i decreases-loop-i
 returns c =
-    let l = c.before.before.before.before in
-    let b = c.before.before.piece-at in
-    let m = many l in
-    turn-stop (refusals l) l.loop.i l.loop.invariant.2 0 (omega arith)
-    (refusal-here (pieces l) l.loop.reference l.loop.i b.result (omega arith) b.ensures l.loop.invariant.1 _ _
-    c.before.judge-piece.ensures) c.if1.true
+    let l = c in
+    let b = c.piece_at-piece in
+    let m = many l.before.before.before.before in
+    turn-stop (refusals l.before.before.before.before) l.loop-i.i l.loop-i.invariant.2 0 (omega arith)
+    (refusal-here (pieces l.before.before.before.before) l.loop-i.reference l.loop-i.i b.result (omega arith) b.ensures l.loop-i.invariant.1 _ _
+    c.judge_piece-refusal.ensures) c.if-refusal-ne0.true
 
-loop-again : tie.Need-loop-preserved invariant-loop decreases-loop
+loop-again : tie.Need-loop-i-preserved invariant-loop-i decreases-loop-i
 loop-again c =
-    let l = c.before.before.before.before.before in
-    let b = c.before.before.before.piece-at in
-    let m = many l in
-    let h : l.loop.i < length (pieces l) = omega arith in (
+    let l = c in
+    let b = c.piece_at-piece in
+    let m = many l.before.before.before.before.before in
+    let h : l.loop-i.i < length (pieces l.before.before.before.before.before) = omega arith in (
       search rules,
-      past_next (pieces l) l.loop.reference l.loop.i b.result h b.ensures l.loop.invariant.1 _ c.next-reference.ensures,
-      turn-next (refusals l) l.loop.i l.loop.invariant.2 0 (omega arith)
-          (refusal-here (pieces l) l.loop.reference l.loop.i b.result h b.ensures l.loop.invariant.1 _ _
-          c.before.before.judge-piece.ensures) c.before.if1.false,
+      past_next (pieces l.before.before.before.before.before) l.loop-i.reference l.loop-i.i b.result h b.ensures l.loop-i.invariant.1 _ c.next_reference-reference.ensures,
+      turn-next (refusals l.before.before.before.before.before) l.loop-i.i l.loop-i.invariant.2 0 (omega arith)
+          (refusal-here (pieces l.before.before.before.before.before) l.loop-i.reference l.loop-i.i b.result h b.ensures l.loop-i.invariant.1 _ _
+          c.judge_piece-refusal.ensures) c.if-refusal-ne0.false,
     )
 
-returns-2 : tie.Need-returns-2 invariant-loop decreases-loop
+returns-2 : tie.Need-returns invariant-loop-i decreases-loop-i
 returns-2 c =
     let m = many c.before in
-    turn-done (refusals c.before) c.before.loop.i c.before.loop.invariant.2 (omega arith)
+    turn-done (refusals c.before) c.loop-i.i c.loop-i.invariant.2 (omega arith)
 
-pub judge-pieces-spec : {M : Type 1} → statement M
-judge-pieces-spec =
+pub judge_pieces_spec : {M : Type 1} → statement M
+judge_pieces_spec =
     tie.close
     (tie.spec
-    invariant-loop
-    decreases-loop
+    invariant-loop-i
+    decreases-loop-i
     loop-holds
     (λ c κs. search rules) (λ c κs. search rules)
     returns

@@ -34,74 +34,74 @@ starts ns counts sums e c s =
     record { at = λ p h. let g : p < length counts = omega arith in s.at p g ∙ counts-sums ns counts c p (omega arith) }
 
 -- the start, from the first table and from the first call
-abbrev entry : tie.After-table → tie.Start
-entry c = let k = c.before.before.before.before in k.before.before.before.before
+abbrev entry : tie.After-table-1 → tie.Start
+entry c = c.before.before.before.before.before.before.before.before
 
-abbrev counting : tie.After-count-packets-arg → tie.Start
-counting c = entry c.before.before
+abbrev counting : tie.After-count_packets-arg-1 → tie.Start
+counting c = c.before.before.before.before.before.before.before.before.before.before
 
 -- each call, from the next
-abbrev counted-at : tie.After-sum-counts → tie.After-count-packets
+abbrev counted-at : tie.After-sum_counts → tie.After-count_packets
 counted-at c = c.before.before.before.before
 
-abbrev summed_at : tie.After-fill-places → tie.After-sum-counts
+abbrev summed_at : tie.After-fill_places → tie.After-sum_counts
 summed_at c = c.before.before.before.before.before
 
 -- how long the counts are
-counted : (c : tie.After-count-packets) → length c.count-packets.new.1.0 ≡ (counting c.before).args.sent
-counted c = c.count-packets.auto.1.0 ∙ many _ (counting c.before).requires.0
+counted : (c : tie.After-count_packets) → length c.count_packets.new.counts ≡ (counting c.before).args.sent
+counted c = c.count_packets.auto.counts ∙ many _ (counting c.before).requires.0
 
 -- and the sums
-summed : (c : tie.After-sum-counts) → length c.sum-counts.new.0 ≡ (counting (counted-at c).before).args.sent
-summed c = c.sum-counts.auto.0 ∙ counted (counted-at c)
+summed : (c : tie.After-sum_counts) → length c.sum_counts.new.counts ≡ (counting (counted-at c).before).args.sent
+summed c = c.sum_counts.auto.counts ∙ counted (counted-at c)
 
-count-packets-requires : tie.Need-count-packets-requires
+count-packets-requires : tie.Need-count_packets-requires
 count-packets-requires c κs =
     let q = (counting c).requires in
     (subst (λ (j : ℕ). NumbersWithin j (counting c).args.numbers.now) (sym (many _ q.0)) q.2, q.3, all-zeros _ q.0)
 
-sum-counts-requires : tie.Need-sum-counts-requires
+sum-counts-requires : tie.Need-sum_counts-requires
 sum-counts-requires c κs =
     let s = counting c.before.before.before.before in
-    let n = c.before.before.before.count-packets in
+    let n = c.count_packets in
     let ns = s.args.numbers.now in
     omega (
       arith,
-      counts-sums ns n.new.1.0 n.ensures (length n.new.1.0) (omega arith),
-      arrivals-most ns (length n.new.1.0),
-      s.pre.3,
+      counts-sums ns n.new.counts n.ensures (length n.new.counts) (omega arith),
+      arrivals-most ns (length n.new.counts),
+      s.requires.3,
     )
 
-fill-places-requires : tie.Need-fill-places-requires
+fill-places-requires : tie.Need-fill_places-requires
 fill-places-requires c κs =
-    let m = c.before.before.before.before in
-    let n = counted-at m in
+    let m = c in
+    let n = counted-at m.before.before.before.before in
     let s = counting n.before in (
-      subst (λ (j : ℕ). NumbersWithin j s.args.numbers.now) (sym (summed m)) s.pre.2,
-      s.pre.3,
-      many _ s.pre.3,
-      starts _ _ _ m.sum-counts.auto.0 n.count-packets.ensures m.sum-counts.ensures,
+      subst (λ (j : ℕ). NumbersWithin j s.args.numbers.now) (sym (summed m.before.before.before.before)) s.requires.2,
+      s.requires.3,
+      many _ s.requires.3,
+      starts _ _ _ m.sum_counts.auto.counts n.count_packets.ensures m.sum_counts.ensures,
     )
 
-note-packets-requires : tie.Need-note-packets-requires
+note-packets-requires : tie.Need-note_packets-requires
 note-packets-requires c κs =
-    let p = c.before.before.before.before.before.before.before in
-    let f = p.fill-places in
-    let m = summed_at p in
+    let p = c in
+    let f = p.fill_places in
+    let m = summed_at p.before.before.before.before.before.before in
     let s = counting (counted-at m).before in
-    let e = f.auto.1.0 ∙ summed m in (
-      s.pre.1,
-      subst (λ (j : ℕ). NumbersWithin j s.args.numbers.now) (sym e) s.pre.2,
-      omega (arith, e, s.pre.0),
-      s.pre.3,
-      f.auto.1.1.0 ∙ many _ s.pre.3,
+    let e = f.auto.starts ∙ summed m in (
+      s.requires.1,
+      subst (λ (j : ℕ). NumbersWithin j s.args.numbers.now) (sym e) s.requires.2,
+      omega (arith, e, s.requires.0),
+      s.requires.3,
+      f.auto.places ∙ many _ s.requires.3,
       f.ensures,
-      s.pre.4,
-      s.pre.5,
+      s.requires.4,
+      s.requires.5,
     )
 
-pub note-arrivals-spec : {M : Type 1} → statement M
-note-arrivals-spec =
+pub note_arrivals_spec : {M : Type 1} → statement M
+note_arrivals_spec =
     tie.close
     (tie.spec
     (λ c. search rules)

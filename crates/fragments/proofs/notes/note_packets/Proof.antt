@@ -20,165 +20,165 @@ use Rattle.fragments.proofs.notes.note_packets.Statement.{statement}
 use Rattle.fragments.proofs.notes.note_packets.Tie as tie
 
 -- those with ₀ are the values where the loop begins, the others those at its head
-abbrev invariant-loop : tie.invariant-loop
-invariant-loop numbers times lengths mores offsets ends places₀ marks₀ wholes₀ spare₀ from₀ p₀ places marks wholes spare from p =
+abbrev invariant-loop-p : tie.invariant-loop-p
+invariant-loop-p numbers times lengths mores offsets ends places₀ marks₀ wholes₀ spare₀ from₀ p₀ places marks wholes spare from p =
     (p ≤ length ends) × (from ≡ arrivals_to numbers p) × PlacedFrom numbers (length ends) p places
     × NotedTo (pieces_of numbers times lengths mores offsets) (p + 1) marks wholes × (length spare ≡ 2048)
 
-abbrev decreases-loop : tie.decreases-loop
-decreases-loop numbers times lengths mores offsets ends places₀ marks₀ wholes₀ spare₀ from₀ p₀ places marks wholes spare from p = length ends - p
+abbrev decreases-loop-p : tie.decreases-loop-p
+decreases-loop-p numbers times lengths mores offsets ends places₀ marks₀ wholes₀ spare₀ from₀ p₀ places marks wholes spare from p = length ends - p
 
 -- the start, from the loop
-abbrev begun : tie.After-slice-known3 invariant-loop decreases-loop → tie.Start invariant-loop decreases-loop
-begun c = let k = c.before.before.before in k.before.before.before.before.before.before
+abbrev begun : tie.After-slice_known-3-1 invariant-loop-p decreases-loop-p → tie.Start invariant-loop-p decreases-loop-p
+begun c = c.before.before.before.before.before.before.before.before.before
 
-abbrev start : tie.At-loop invariant-loop decreases-loop → tie.Start invariant-loop decreases-loop
-start c = begun c.before
+abbrev start : tie.At-loop-p invariant-loop-p decreases-loop-p → tie.Start invariant-loop-p decreases-loop-p
+start c = c.before.before.before.before.before.before.before.before.before.before
 
 -- from the end of a turn: the packet's arrivals noted, its places in order, and where they end
-abbrev noted : tie.After-slice-known7 invariant-loop decreases-loop → tie.After-note-run invariant-loop decreases-loop
+abbrev noted : tie.After-slice_known-in-loop-p-4-1 invariant-loop-p decreases-loop-p → tie.After-note_run invariant-loop-p decreases-loop-p
 noted c = c.before.before.before.before.before.before
 
-abbrev sorted : tie.After-note-run invariant-loop decreases-loop → tie.After-put-in-order invariant-loop decreases-loop
-sorted c = c.before.before.before.before.before.before.before
+abbrev sorted : tie.After-note_run invariant-loop-p decreases-loop-p → tie.After-put_in_order invariant-loop-p decreases-loop-p
+sorted c = c.before.before.before.before.before.before
 
-abbrev ended : tie.After-put-in-order invariant-loop decreases-loop → tie.After-index-of invariant-loop decreases-loop
+abbrev ended : tie.After-put_in_order invariant-loop-p decreases-loop-p → tie.After-index_of-to invariant-loop-p decreases-loop-p
 ended c = c.before.before.before.before
 
 -- the arrivals
-abbrev pieces : tie.Start invariant-loop decreases-loop → List Piece
+abbrev pieces : tie.Start invariant-loop-p decreases-loop-p → List Piece
 pieces s = let a = s.args in pieces_of a.numbers.now a.times.now a.lengths.now a.mores.now a.offsets.now
 
 -- where the packet's places end
-end : (c : tie.After-index-of invariant-loop decreases-loop) → c.index_of.result
-    ≡ arrivals_to (start c.before.before.before).args.numbers.now (suc c.before.before.before.loop.p)
+end : (c : tie.After-index_of-to invariant-loop-p decreases-loop-p) → c.index_of-to.result
+    ≡ arrivals_to (start c.before.before.before).args.numbers.now (suc c.loop-p.p)
 end c =
-    c.index_of.ensures ∙ (start c.before.before.before).pre.5.end c.before.before.before.loop.p
-    c.before.before.loop-test.true
+    c.index_of-to.ensures ∙ (start c.before.before.before).requires.5.end c.loop-p.p
+    c.loop-p-test.true
 
 -- they stand between the two
-between : (c : tie.After-index-of invariant-loop decreases-loop) → (c.before.before.before.loop.from ≤ c.index_of.result)
-    × (c.index_of.result ≤ length c.before.before.before.loop.places)
+between : (c : tie.After-index_of-to invariant-loop-p decreases-loop-p) → (c.loop-p.from ≤ c.index_of-to.result)
+    × (c.index_of-to.result ≤ length c.loop-p.places)
 between c =
-    let l = c.before.before.before in
+    let l = c in
     let b =
-    block_inside _ _ l.loop.p c.before.before.loop-test.true l.loop.from c.index_of.result l.loop.invariant.1 (end c)
-    l.loop.places l.loop.invariant.2 in
+    block_inside _ _ l.loop-p.p c.loop-p-test.true l.loop-p.from c.index_of-to.result l.loop-p.invariant.1 (end c)
+    l.loop-p.places l.loop-p.invariant.2 in
     (b.0, b.1.0)
 
 none : (ns : List ℕ) → 0 ≡ arrivals_to ns 0
 unfolding arrivals_to
 none ns = refl
 
-loop-holds : tie.Need-loop-init invariant-loop decreases-loop
+loop-holds : tie.Need-loop-p-init invariant-loop-p decreases-loop-p
 loop-holds c =
     let s = begun c in
     let a = s.args in
     let n = pieces-length a.numbers.now a.times.now a.lengths.now a.mores.now a.offsets.now in (
       omega arith,
       none a.numbers.now,
-      placed-start _ _ _ _ refl s.pre.4 s.pre.5,
+      placed-start _ _ _ _ refl s.requires.4 s.requires.5,
       record {
-        of_marks = s.pre.6 ∙ sym n;
-        of_wholes = s.pre.7 ∙ sym n;
-        at = λ i h g. absurd (omega (arith, (piece-within _ _ _ _ _ _ s.pre.1 i h).0));
+        of_marks = s.requires.6 ∙ sym n;
+        of_wholes = s.requires.7 ∙ sym n;
+        at = λ i h g. absurd (omega (arith, (piece-within _ _ _ _ _ _ s.requires.1 i h).0));
       },
       search rules,
     )
 
 -- how many places the packet has
-many : (c : tie.After-index-of invariant-loop decreases-loop) → let l =
-    c.before.before.before in length (take (c.index_of.result - l.loop.from) (drop l.loop.from l.loop.places))
-    ≡ c.index_of.result - l.loop.from
+many : (c : tie.After-index_of-to invariant-loop-p decreases-loop-p) → let l =
+    c in length (take (c.index_of-to.result - l.loop-p.from) (drop l.loop-p.from l.loop-p.places))
+    ≡ c.index_of-to.result - l.loop-p.from
 many c =
-    let l = c.before.before.before in
-    block-length _ _ l.loop.p c.before.before.loop-test.true l.loop.from c.index_of.result l.loop.invariant.1 (end c)
-    l.loop.places l.loop.invariant.2
+    let l = c in
+    block-length _ _ l.loop-p.p c.loop-p-test.true l.loop-p.from c.index_of-to.result l.loop-p.invariant.1 (end c)
+    l.loop-p.places l.loop-p.invariant.2
 
-put-in-order-requires : tie.Need-put-in-order-requires invariant-loop decreases-loop
+put-in-order-requires : tie.Need-put_in_order-requires invariant-loop-p decreases-loop-p
 put-in-order-requires c κs =
-    let l = c.before.before.before.before.before.before in
-    let q = (start l).requires in (
+    let l = c in
+    let q = (start l.before.before.before.before.before.before).requires in (
       q.0.1 ∙ sym q.0.3,
       omega (
         arith,
         many c.before.before.before,
         between c.before.before.before,
-        l.loop.invariant.2.room,
+        l.loop-p.invariant.2.room,
         q.3,
-        l.loop.invariant.4,
+        l.loop-p.invariant.4,
       ),
     )
 
 -- the packet's places in order are a run
-run-here : (c : tie.After-put-in-order invariant-loop decreases-loop) → let l =
-    c.before.before.before.before.before.before.before in Run (pieces (start l)) (l.loop.p + 1) c.put-in-order.new.1.1.0
+run-here : (c : tie.After-put_in_order invariant-loop-p decreases-loop-p) → let l =
+    c.before.before.before.before.before.before.before in Run (pieces (start l)) (l.loop-p.p + 1) c.put_in_order.new.places
 run-here c =
-    let i = c.before.before.before.before in
-    let l = c.before.before.before.before.before.before.before in
-    let a = (start l).args in
-    let e : take (i.index_of.result - l.loop.from) (drop l.loop.from l.loop.places)
-    ≡ places_of a.numbers.now (l.loop.p + 1) =
-    block_same _ _ l.loop.p i.before.before.loop-test.true l.loop.from i.index_of.result l.loop.invariant.1 (end i)
-    l.loop.places l.loop.invariant.2 ∙ ap (places_of a.numbers.now) (sym (add-one l.loop.p)) in
+    let i = c in
+    let l = c in
+    let a = (start l.before.before.before.before.before.before.before).args in
+    let e : take (i.index_of-to.result - l.loop-p.from) (drop l.loop-p.from l.loop-p.places)
+    ≡ places_of a.numbers.now (l.loop-p.p + 1) =
+    block_same _ _ l.loop-p.p i.loop-p-test.true l.loop-p.from i.index_of-to.result l.loop-p.invariant.1 (end i.before.before.before.before)
+    l.loop-p.places l.loop-p.invariant.2 ∙ ap (places_of a.numbers.now) (sym (add-one l.loop-p.p)) in
     run_of a.numbers.now a.times.now a.lengths.now a.mores.now a.offsets.now
-    (record { at = λ i. omega (arith, l.before.before.before.before.before.before.before.shared-slice-known3.given i) })
-    (l.loop.p + 1) c.put-in-order.new.1.1.0
-    (subst (λ (m : List ℕ). InOrder (piece_key a.lengths.now a.offsets.now) m c.put-in-order.new.1.1.0) e
-    c.put-in-order.ensures)
+    (record { at = λ i. omega (arith, l.shared_slice_known-3-1.given i) })
+    (l.loop-p.p + 1) c.put_in_order.new.places
+    (subst (λ (m : List ℕ). InOrder (piece_key a.lengths.now a.offsets.now) m c.put_in_order.new.places) e
+    c.put_in_order.ensures)
 
-note-run-requires : tie.Need-note-run-requires invariant-loop decreases-loop
+note-run-requires : tie.Need-note_run-requires invariant-loop-p decreases-loop-p
 note-run-requires c κs =
     let p =
-    c.before.before.before.before.before.before in let l =
-    (ended p).before.before.before in ((start l).pre.0, run-here p, l.loop.inv.3)
+    c.before.before.before.before.before in let l =
+    (ended p).before.before.before in ((start l).requires.0, run-here p, l.loop-p.invariant.3)
 
-loop-again : tie.Need-loop-preserved invariant-loop decreases-loop
+loop-again : tie.Need-loop-p-preserved invariant-loop-p decreases-loop-p
 loop-again c =
     let p = sorted (noted c) in
     let i = ended p in
-    let b = i.before.before in
-    let l = b.before in
-    let ns = (start l).args.numbers.now in (
-      omega (arith, b.loop-test.taken),
-      end i ∙ ap (arrivals_to ns) (sym (add-one l.loop.p)),
-      placed-next _ _ l.loop.p b.loop-test.taken l.loop.from i.index_of.result l.loop.inv.1 (end i) l.loop.places
-          l.loop.inv.2 p.put-in-order.last.1.1.0 p.put-in-order.kept.1.1.0,
-      (noted c).note-run.ensures,
-      p.put-in-order.kept.1.1.1.0 ∙ l.loop.inv.4,
+    let b = i in
+    let l = b in
+    let ns = (start l.before.before.before).args.numbers.now in (
+      omega (arith, b.loop-p-test.true),
+      end i ∙ ap (arrivals_to ns) (sym (add-one l.loop-p.p)),
+      placed-next _ _ l.loop-p.p b.loop-p-test.true l.loop-p.from i.index_of-to.result l.loop-p.invariant.1 (end i) l.loop-p.places
+          l.loop-p.invariant.2 p.put_in_order.new.places p.put_in_order.auto.places,
+      (noted c).note_run.ensures,
+      p.put_in_order.auto.spare ∙ l.loop-p.invariant.4,
     )
 
 -- the lists keep their lengths
-counted : (s : tie.Start invariant-loop decreases-loop) → length (pieces s) ≡ length s.args.numbers.now
+counted : (s : tie.Start invariant-loop-p decreases-loop-p) → length (pieces s) ≡ length s.args.numbers.now
 counted s = let a = s.args in pieces-length a.numbers.now a.times.now a.lengths.now a.mores.now a.offsets.now
 
-returns : tie.Need-returns invariant-loop decreases-loop
+returns : tie.Need-returns invariant-loop-p decreases-loop-p
 returns c =
-    let l = c.before in
-    let s = start l in
-    record { at = λ i h. l.loop.invariant.3.at i h (omega (arith, (piece-within _ _ _ _ _ _ s.pre.1 i h).1, c.loop-test.false)) }
+    let l = c in
+    let s = start l.before in
+    record { at = λ i h. l.loop-p.invariant.3.at i h (omega (arith, (piece-within _ _ _ _ _ _ s.requires.1 i h).1, c.loop-p-test.false)) }
 
-pub note-packets-spec : {M : Type 1} → statement M
-note-packets-spec =
+pub note_packets_spec : {M : Type 1} → statement M
+note_packets_spec =
     tie.close
     (tie.spec
-    invariant-loop
-    decreases-loop
+    invariant-loop-p
+    decreases-loop-p
     loop-holds
     (λ c. search rules) (λ c. search rules)
     (λ c κs. search rules)
-    (λ c. omega (arith, between c, c.index_of.ensures, c.before.shared-slice-known7.given c.before.before.before.loop.p))
+    (λ c. omega (arith, between c, c.index_of-to.ensures, c.shared_slice_known-in-loop-p-1.given c.loop-p.p))
     (λ c. omega (arith, between c))
     (λ c. omega (arith, between c))
     (λ c. omega (arith, between c))
-    (λ c. sym c.before.before.before.before.before.before.loop.invariant.4)
+    (λ c. sym c.loop-p.invariant.4)
     put-in-order-requires
     (λ c. search rules)
-    (λ c. let b = (ended c.before.before.before).before.before in omega (arith, b.loop-test.taken, (start b.before).pre.2))
+    (λ c. let b = ended c.before.before.before in omega (arith, b.loop-p-test.true, (start b.before.before.before).requires.2))
     note-run-requires
-    (λ c. omega (arith, (ended (sorted (noted c))).before.before.loop-test.taken))
+    (λ c. omega (arith, (ended (sorted (noted c))).loop-p-test.true))
     loop-again
-    (λ c. let l = c.before in l.loop.invariant.2.room ∙ sym (start l).requires.4)
-    (λ c. let l = c.before in l.loop.invariant.3.of_marks ∙ counted (start l) ∙ sym (start l).requires.6)
-    (λ c. let l = c.before in l.loop.invariant.3.of_wholes ∙ counted (start l) ∙ sym (start l).requires.7)
+    (λ c. let l = c in l.loop-p.invariant.2.room ∙ sym (start l.before).requires.4)
+    (λ c. let l = c in l.loop-p.invariant.3.of_marks ∙ counted (start l.before) ∙ sym (start l.before).requires.6)
+    (λ c. let l = c in l.loop-p.invariant.3.of_wholes ∙ counted (start l.before) ∙ sym (start l.before).requires.7)
     returns)

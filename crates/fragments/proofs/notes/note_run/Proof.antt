@@ -20,30 +20,30 @@ use Rattle.fragments.proofs.notes.note_run.Statement.{statement}
 use Rattle.fragments.proofs.notes.note_run.Tie as tie
 
 -- marks₀, wholes₀, last₀ and m₀ are the values where the loop begins, marks, wholes, last and m those at its head
-abbrev invariant-loop : tie.invariant-loop
-invariant-loop numbers times lengths mores offsets s run marks₀ wholes₀ whole first last₀ m₀ marks wholes last m =
+abbrev invariant-loop-m : tie.invariant-loop-m
+invariant-loop-m numbers times lengths mores offsets s run marks₀ wholes₀ whole first last₀ m₀ marks wholes last m =
     (0 < m) × NotingTo (pieces_of numbers times lengths mores offsets) s run m marks wholes
     × (last ≡ key_of (get_or (pieces_of numbers times lengths mores offsets) (get_or run (m - 1) 0) no_piece))
 
-abbrev decreases-loop : tie.decreases-loop
-decreases-loop numbers times lengths mores offsets s run marks₀ wholes₀ whole first last₀ m₀ marks wholes last m = length run - m
+abbrev decreases-loop-m : tie.decreases-loop-m
+decreases-loop-m numbers times lengths mores offsets s run marks₀ wholes₀ whole first last₀ m₀ marks wholes last m = length run - m
 
 -- the start, from where the run is not empty, from where the first key is made, and from the loop
-abbrev entry : tie.Else1 invariant-loop decreases-loop → tie.Start invariant-loop decreases-loop
-entry c = let k = c.before.before.before.before.before in k.before.before.before.before
+abbrev entry : tie.Else-run-eq0 invariant-loop-m decreases-loop-m → tie.Start invariant-loop-m decreases-loop-m
+entry c = c.before.before.before.before.before.before.before.before.before
 
-abbrev begun : tie.After-key-of invariant-loop decreases-loop → tie.Start invariant-loop decreases-loop
-begun c = entry c.before.before.before.before.before.before.before
+abbrev begun : tie.After-key_of-last invariant-loop-m decreases-loop-m → tie.Start invariant-loop-m decreases-loop-m
+begun c = c.before.before.before.before.before.before.before.before.before.before.before.before.before.before.before.before
 
-abbrev start : tie.At-loop invariant-loop decreases-loop → tie.Start invariant-loop decreases-loop
-start c = begun c.before
+abbrev start : tie.At-loop-m invariant-loop-m decreases-loop-m → tie.Start invariant-loop-m decreases-loop-m
+start c = c.before.before.before.before.before.before.before.before.before.before.before.before.before.before.before.before.before
 
 -- the arrivals
-abbrev pieces : tie.Start invariant-loop decreases-loop → List Piece
+abbrev pieces : tie.Start invariant-loop-m decreases-loop-m → List Piece
 pieces s = let a = s.args in pieces_of a.numbers.now a.times.now a.lengths.now a.mores.now a.offsets.now
 
 -- a place of the run is one of the lists
-inside : (s : tie.Start invariant-loop decreases-loop) (m : ℕ) → m < length s.args.run.now
+inside : (s : tie.Start invariant-loop-m decreases-loop-m) (m : ℕ) → m < length s.args.run.now
     → get_or s.args.run.now m 0 < length s.args.numbers.now
 inside s m h =
     let a =
@@ -61,11 +61,11 @@ key_here ns ts ls ms fs y z r h e q =
     q ∙ ap (λ (j : ℕ). get_or fs j 0 * 65536 + get_or ls j 0) e ∙ sym (ap key_of (pieces-get_or ns ts ls ms fs z h))
 
 -- whether the packet is complete, as it is stored
-whole_here : (c : tie.After-key-of invariant-loop decreases-loop) → c.before.before.before.before.before.bit.result
+whole_here : (c : tie.After-key_of-last invariant-loop-m decreases-loop-m) → c.bit-whole.result
     ≡ cond (complete (pieces (begun c)) (begun c).args.s) 1 0
 whole_here c =
-    c.before.before.before.before.before.bit.ensures ∙ ap (λ (t : Bool). cond t 1 0)
-    c.before.before.before.before.before.before.complete.ensures
+    c.bit-whole.ensures ∙ ap (λ (t : Bool). cond t 1 0)
+    c.complete.ensures
 
 -- the run's first has no earlier one
 first-mark : (l : List Piece) (y z : ℕ) → y ≡ z → earlier_same l z ≡ false → ◌≡◌ {A = ℕ} 0 (cond (earlier_same l y) 1 0)
@@ -79,140 +79,140 @@ next-mark l y z v last key before e q d k n =
     q ∙ ap₂ (λ (x j : ℕ). cond (eqb x j) 1 0) d k ∙ sym (ap (λ (t : Bool). cond t 1 0) n)
     ∙ ap (λ (j : ℕ). cond (earlier_same l j) 1 0) (sym e)
 
-returns : tie.Need-returns invariant-loop decreases-loop
+returns : tie.Need-returns-then-run-eq0 invariant-loop-m decreases-loop-m
 returns c =
-    let k = c.before.before.before.before.before in
-    let s = k.before.before.before.before in
-    noting-done _ _ _ s.requires.1 0 (omega (arith, c.if1.true)) (noting-start _ _ _ s.requires.2)
+    let k = c in
+    let s = k in
+    noting-done _ _ _ s.requires.1 0 (omega (arith, c.if-run-eq0.true)) (noting-start _ _ _ s.requires.2)
 
-loop-holds : tie.Need-loop-init invariant-loop decreases-loop
+loop-holds : tie.Need-loop-m-init invariant-loop-m decreases-loop-m
 loop-holds c =
     let s = begun c in
     let a = s.args in
-    let w = s.pre.1 in
-    let e = c.before.before.before.index_of.ensures in
-    let h : 0 < length a.run.now = omega (arith, c.before.before.before.before.before.before.before.if1.false) in (
+    let w = s.requires.1 in
+    let e = c.index_of-first.ensures in
+    let h : 0 < length a.run.now = omega (arith, c.if-run-eq0.false) in (
       omega arith,
-      noting-next _ _ _ w 0 c.before.before.before.index_of.result 0 c.before.before.before.before.before.bit.result h e
-          (first-mark (pieces s) _ _ e (w.first h)) (whole_here c) (noting-start _ _ _ s.pre.2),
+      noting-next _ _ _ w 0 c.index_of-first.result 0 c.bit-whole.result h e
+          (first-mark (pieces s) _ _ e (w.first h)) (whole_here c) (noting-start _ _ _ s.requires.2),
       key_here a.numbers.now a.times.now a.lengths.now a.mores.now a.offsets.now _ _ _ (inside s 0 h) e
-          c.key-of.ensures,
+          c.key_of-last.ensures,
     )
 
-loop-again : tie.Need-loop-preserved invariant-loop decreases-loop
+loop-again : tie.Need-loop-m-preserved invariant-loop-m decreases-loop-m
 loop-again c =
-    let b = c.before.before.before.before.before.before in
-    let l = b.before in
-    let s = start l in
+    let b = c in
+    let l = b in
+    let s = start l.before.before.before.before.before.before.before in
     let a = s.args in
-    let w = s.pre.1 in
-    let e = c.before.before.before.before.index-of2.ensures in
-    let h = b.loop-test.true in
+    let w = s.requires.1 in
+    let e = c.index_of-i.ensures in
+    let h = b.loop-m-test.true in
     let k =
-    key_here a.numbers.now a.times.now a.lengths.now a.mores.now a.offsets.now _ _ c.before.key-of2.result
-    (inside s l.loop.m h) e c.before.key-of2.ensures in
-    let z : l.loop.m ≡ l.loop.m + 1 - 1 = omega arith in (
+    key_here a.numbers.now a.times.now a.lengths.now a.mores.now a.offsets.now _ _ c.key_of-key.result
+    (inside s l.loop-m.m h) e c.key_of-key.ensures in
+    let z : l.loop-m.m ≡ l.loop-m.m + 1 - 1 = omega arith in (
       omega arith,
-      noting-next _ _ _ w l.loop.m c.before.before.before.before.index-of2.result c.bit2.result
-          l.before.before.before.before.before.before.bit.result h e
-          (next-mark (pieces s) _ _ _ _ _ _ e c.bit2.ensures l.loop.invariant.2 k (w.next l.loop.m l.loop.invariant.0 h))
-          (whole_here l.before) l.loop.invariant.1,
+      noting-next _ _ _ w l.loop-m.m c.index_of-i.result c.bit.result
+          l.bit-whole.result h e
+          (next-mark (pieces s) _ _ _ _ _ _ e c.bit.ensures l.loop-m.invariant.2 k (w.next l.loop-m.m l.loop-m.invariant.0 h))
+          (whole_here l.before.before.before.before.before.before.before.before) l.loop-m.invariant.1,
       k ∙ ap (λ (j : ℕ). key_of (get_or (pieces s) (get_or a.run.now j 0) no_piece)) z,
     )
 
-returns-2 : tie.Need-returns-2 invariant-loop decreases-loop
-returns-2 c = let l = c.before in noting-done _ _ _ (start l).requires.1 l.loop.m c.loop-test.false l.loop.invariant.1
+returns-2 : tie.Need-returns invariant-loop-m decreases-loop-m
+returns-2 c = let l = c in noting-done _ _ _ (start l.before).requires.1 l.loop-m.m c.loop-m-test.false l.loop-m.invariant.1
 
-pub note-run-spec : {M : Type 1} → statement M
-note-run-spec =
+pub note_run_spec : {M : Type 1} → statement M
+note_run_spec =
     tie.close
     (tie.spec
-    invariant-loop
-    decreases-loop
+    invariant-loop-m
+    decreases-loop-m
     returns
-    (λ c κs. let p = (entry c).requires in (p.0, p.1, omega (arith, c.if1.false)))
+    (λ c κs. let p = (entry c).requires in (p.0, p.1, omega (arith, c.if-run-eq0.false)))
     (λ c κs. search rules)
-    (λ c. omega (arith, c.before.before.before.if1.false))
+    (λ c. omega (arith, c.if-run-eq0.false))
     (λ c κs. search rules)
-    (λ c. omega (arith, c.index_of.ensures, c.before.shared-slice-known7.given 0))
+    (λ c. omega (arith, c.index_of-first.ensures, c.shared_slice_known-7-1.given 0))
     (λ c. let s = entry c.before.before.before.before.before in
     omega (
       arith,
-      c.before.index_of.ensures,
-      inside s 0 (omega (arith, c.before.before.before.before.before.if1.false)),
-      s.pre.0.3,
+      c.index_of-first.ensures,
+      inside s 0 (omega (arith, c.if-run-eq0.false)),
+      s.requires.0.3,
     ))
-    (λ c. omega (arith, c.before.index_of.ensures, c.before.before.shared-slice-known7.given 0))
+    (λ c. omega (arith, c.index_of-first.ensures, c.shared_slice_known-7-1.given 0))
     (λ c. let s = entry c.before.before.before.before.before.before in
     omega (
       arith,
-      c.before.before.index_of.ensures,
+      c.index_of-first.ensures,
       inside s 0
-          (omega (arith, c.before.before.before.before.before.before.if1.false)),
-      s.pre.0.1,
+          (omega (arith, c.if-run-eq0.false)),
+      s.requires.0.1,
     ))
     (λ c κs. search rules)
     (λ c. let s = begun c in omega (
       arith,
-      c.before.before.before.index_of.ensures,
-      s.pre.1.inside 0 (omega (arith, c.before.before.before.before.before.before.before.if1.false)),
-      s.pre.2.of_marks,
+      c.index_of-first.ensures,
+      s.requires.1.inside 0 (omega (arith, c.if-run-eq0.false)),
+      s.requires.2.of_marks,
     ))
     (λ c. let s = begun c in omega (
       arith,
-      c.before.before.before.index_of.ensures,
-      s.pre.1.inside 0 (omega (arith, c.before.before.before.before.before.before.before.if1.false)),
-      s.pre.2.of_wholes,
+      c.index_of-first.ensures,
+      s.requires.1.inside 0 (omega (arith, c.if-run-eq0.false)),
+      s.requires.2.of_wholes,
     ))
     loop-holds
     (λ c. search rules) (λ c. search rules)
     (λ c κs. search rules)
-    (λ c. omega (arith, c.index-of2.ensures, c.before.shared-slice-known10.given c.before.before.before.loop.m))
+    (λ c. omega (arith, c.index_of-i.ensures, c.shared_slice_known-in-loop-m-1.given c.loop-m.m))
     (λ c. let s = start c.before.before.before.before in
     omega (
       arith,
-      c.before.index-of2.ensures,
-      inside s c.before.before.before.before.loop.m
-          c.before.before.before.loop-test.true,
-      s.pre.0.3,
+      c.index_of-i.ensures,
+      inside s c.loop-m.m
+          c.loop-m-test.true,
+      s.requires.0.3,
     ))
     (λ c. omega (
       arith,
-      c.before.index-of2.ensures,
-      c.before.before.shared-slice-known10.given
-          c.before.before.before.before.loop.m,
+      c.index_of-i.ensures,
+      c.shared_slice_known-in-loop-m-1.given
+          c.loop-m.m,
     ))
     (λ c. let s = start c.before.before.before.before.before in
     omega (
       arith,
-      c.before.before.index-of2.ensures,
-      inside s c.before.before.before.before.before.loop.m
-          c.before.before.before.before.loop-test.true,
-      s.pre.0.1,
+      c.index_of-i.ensures,
+      inside s c.loop-m.m
+          c.loop-m-test.true,
+      s.requires.0.1,
     ))
     (λ c κs. search rules)
     (λ c κs. search rules)
-    (λ c. let l = c.before.before.before.before.before.before.before in
+    (λ c. let l = c in
     omega (
       arith,
-      c.before.before.before.before.index-of2.ensures,
-      (start l).requires.1.inside l.loop.m c.before.before.before.before.before.before.loop-test.true,
-      l.loop.invariant.1.of_marks,
+      c.index_of-i.ensures,
+      (start l.before.before.before.before.before.before.before).requires.1.inside l.loop-m.m c.loop-m-test.true,
+      l.loop-m.invariant.1.of_marks,
     ))
-    (λ c. let l = c.before.before.before.before.before.before.before in
+    (λ c. let l = c in
     omega (
       arith,
-      c.before.before.before.before.index-of2.ensures,
-      (start l).requires.1.inside l.loop.m c.before.before.before.before.before.before.loop-test.true,
-      l.loop.invariant.1.of_wholes,
+      c.index_of-i.ensures,
+      (start l.before.before.before.before.before.before.before).requires.1.inside l.loop-m.m c.loop-m-test.true,
+      l.loop-m.invariant.1.of_wholes,
     ))
     (λ c. omega (
       arith,
-      c.before.before.before.before.before.before.loop-test.true,
-      (start c.before.before.before.before.before.before.before).good.1.1.1.1.1.1.0,
+      c.loop-m-test.true,
+      (start c.before.before.before.before.before.before.before).well_formed.1.1.1.1.1.1.0,
     ))
-    (λ c. omega (arith, c.before.before.before.before.before.before.loop-test.true))
+    (λ c. omega (arith, c.loop-m-test.true))
     loop-again
-    (λ c. let l = c.before in l.loop.invariant.1.of_marks ∙ sym (start l).requires.2.of_marks)
-    (λ c. let l = c.before in l.loop.invariant.1.of_wholes ∙ sym (start l).requires.2.of_wholes)
+    (λ c. let l = c in l.loop-m.invariant.1.of_marks ∙ sym (start l.before).requires.2.of_marks)
+    (λ c. let l = c in l.loop-m.invariant.1.of_wholes ∙ sym (start l.before).requires.2.of_wholes)
     returns-2)

@@ -1,14 +1,12 @@
 -- `metrics::engine::advance` meets its contract: the class by the tables is the answer's (`told`). `late_figures` returns a reordered
 -- packet's byte offset, as it has not arrived (`new_told`), and its largest n; `answer_by` makes the answer from them. Noting the record
 -- then gives the state after it (`engine-next`). Assumes nothing.
-use mathlib.Core.Path.{◌≡◌, ap, ◌∙◌}
-use Prim.Native.Nat.{◌≤◌}
+use mathlib.Core.Path.{ap, ◌∙◌}
 use Rattle.rfc4737.specs.Arrivals.{firsts}
 use Rattle.rfc4737.specs.Extent.{byte_offset, largest_n}
-use Rattle.rfc4737.specs.Judge.{sent_most}
 use Rattle.sample.specs.Decode.{decode}
 use Rattle.metrics.specs.Sample.{size_of}
-use Rattle.metrics.specs.Records.{arrival_at, before}
+use Rattle.metrics.specs.Records.{before}
 use Rattle.metrics.proofs.TablesFollow.{number-few}
 use Rattle.metrics.proofs.AnswersByClass.{told, new_told, late-both}
 use Rattle.metrics.proofs.NotingArrivals.{noting}
@@ -17,78 +15,57 @@ use borrow.Author.Rules.{rules}
 use Rattle.metrics.proofs.engine.advance.Statement.{statement}
 use Rattle.metrics.proofs.engine.advance.Tie as tie
 
--- ---- places
+class-of-requires : tie.Need-class_of-class-requires
+class-of-requires c κs = (number-few _ _ _ c.requires.0 _ c.requires.1).2
 
-abbrev start : tie.After-class-of → tie.Start
-start c = c.before.before.before.before.before.before.before
-
-abbrev after-class-of : tie.After-late-figures → tie.After-class-of
-after-class-of c = c.before.before.before.before
-
-abbrev after-late-figures : tie.After-answer-by-arg2 → tie.After-late-figures
-after-late-figures c = c.before.before.before.before
-
--- the arrival's number is that of record i + 1, and that of a packet
-number : (c : tie.Start) → (c.args.arrival.number ≡ (arrival_at (decode c.args.file.now) c.args.i).number)
-    × (1 ≤ c.args.arrival.number) × (c.args.arrival.number ≤ sent_most)
-number c = number-few _ _ _ c.requires.0 _ c.requires.1
-
-class-of-requires : tie.Need-class-of-requires
-class-of-requires c κs = (number c.before.before.before.before.before.before).2
-
-late-figures-requires : tie.Need-late-figures-requires
+late-figures-requires : tie.Need-late_figures-late-requires
 late-figures-requires c κs =
-    let s = start c.before.before.before in
-    let p = s.pre in (
+    let p = c.requires in
+    let n = number-few _ _ _ p.0 _ p.1 in (
       engine-filling _ _ _ p.0 _ _ _ _ _ p.2,
-      (number s).1,
-      (number s).2,
+      n.1,
+      n.2,
       (links-laid _ _ _ p.0 _ _ _ _ p.2.follows.numbered p.2.linked).1,
     )
 
-answer-by-requires : tie.Need-answer-by-requires
+answer-by-requires : tie.Need-answer_by-answer-requires
 answer-by-requires c κs =
-    let s = start (after-class-of (after-late-figures c)) in
-    let p = s.pre in
-    let n = number s in
-    let d = decode s.args.file.now in
-    let fs = firsts (before d s.args.i) in
-    let k = (after-class-of (after-late-figures c)).class_of.result in
-    let e = (after-class-of (after-late-figures c)).class_of.ensures in
+    let p = c.requires in
+    let n = number-few _ _ _ p.0 _ p.1 in
+    let d = decode c.args.file.now in
+    let fs = firsts (before d c.args.i) in
+    let k = c.class_of-class.result in
+    let e = c.class_of-class.ensures in
     let f = p.2.follows in
-    let late = c.before.before.before.before.late-figures.ensures.1 fs f.numbered p.2.totalled in (
+    let late = c.late_figures-late.ensures.1 fs f.numbered p.2.totalled in (
       p.0,
       p.1,
       f.numbered,
       f.recorded,
-      told d s.args.i _ _ _ _ f _ n.0 n.1 n.2 _ e,
+      told d c.args.i _ _ _ _ f _ n.0 n.1 n.2 _ e,
       late-both k (λ at new l. (l.1 new ∙ ap (byte_offset (size_of d) fs) n.0, l.0 ∙ ap (largest_n fs) n.0))
-          (new_told d s.args.i _ _ _ _ f _ n.0 n.1 n.2 _ e) late.1,
+          (new_told d c.args.i _ _ _ _ f _ n.0 n.1 n.2 _ e) late.1,
     )
 
-note-requires : tie.Need-note-requires
+note-requires : tie.Need-note-after-requires
 note-requires c κs =
-    let s =
-    start (after-class-of (after-late-figures c.before.before.before.before)) in
-    noting _ _ _ s.pre.0 _ _ _ _ s.pre.2.follows _ (number s).0
+    let p = c.requires in
+    noting _ _ _ p.0 _ _ _ _ p.2.follows _ (number-few _ _ _ p.0 _ p.1).0
 
 returns : tie.Need-returns
 returns c =
-    let s = start (after-class-of (after-late-figures c.before.before.before.before.before.before)) in
-    let n = number s in
-    let f = s.pre.2.follows in
-    let e = (after-class-of (after-late-figures c.before.before.before.before.before.before)).class_of.ensures in
-    let late =
-    (after-late-figures c.before.before.before.before.before.before).late-figures.ensures.1 _ f.numbered
-    s.pre.2.totalled in (
-      c.before.before.before.before.before.answer-by.ensures,
-      told (decode s.args.file.now) s.args.i _ _ _ _ f _ n.0 n.1 n.2 _ e,
-      engine-next _ _ _ s.pre.0 _ _ _ _ f _ n.0 n.1 n.2 _ e _ _ late.1 _ _ _ _ c.before.note.ensures _ _
-          s.pre.2.linked late.0,
+    let p = c.requires in
+    let n = number-few _ _ _ p.0 _ p.1 in
+    let f = p.2.follows in
+    let e = c.class_of-class.ensures in
+    let late = c.late_figures-late.ensures.1 _ f.numbered p.2.totalled in (
+      c.answer_by-answer.ensures,
+      told (decode c.args.file.now) c.args.i _ _ _ _ f _ n.0 n.1 n.2 _ e,
+      engine-next _ _ _ p.0 _ _ _ _ f _ n.0 n.1 n.2 _ e _ _ late.1 _ _ _ _ c.note-after.ensures _ _ p.2.linked late.0,
     )
 
-pub advance-spec : {M : Type 1} → statement M
-advance-spec =
+pub advance_spec : {M : Type 1} → statement M
+advance_spec =
     tie.close
     (tie.spec
     class-of-requires

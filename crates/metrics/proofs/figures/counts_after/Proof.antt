@@ -14,36 +14,36 @@ use Rattle.metrics.proofs.figures.counts_after.Tie as tie
 
 -- ---- places
 
-abbrev start : tie.After-struct-known5 → tie.Start
-start c = c.before.before.before.before
+abbrev start : tie.After-struct_known-in-Reordered-1 → tie.Start
+start c = c.before.before.before
 
-enum_told : tie.Need-enum-told
+enum_told : tie.Need-enum_told-1
 enum_told c = search rules
 
 -- the square of a number of four digits
 square : {n : ℕ} → FourDigits n → n * n ≤ 10 ^ 4 * 10 ^ 4
 square {n} h = mul-le-mul {n₁ = n} {m₁ = n} {n₂ = 10 ^ 4} {m₂ = 10 ^ 4} (omega arith) (omega arith)
 
-mul-t13 : tie.Need-overflow-mul-t13
+mul-t13 : tie.Need-overflow_mul-result
 mul-t13 c = record { fits = omega (arith, square (start c.before.before.before).requires.current) }
 
-add-t14 : tie.Need-overflow-add-t14
+add-t14 : tie.Need-overflow_add-result-in-Reordered-4
 add-t14 c = let p = (start c.before.before.before.before).requires in record { fits = omega (arith, square p.current, p.squares) }
 
-returns : tie.Need-returns
+returns : tie.Need-returns-in-Duplicate
 unfolding counts runs_after
-returns c = λ l n a e k. rw (k.is, c.before.enum_told.given.1, e) (sym (counts-more l _))
+returns c = λ l n a e k. rw (k.is, c.in-Duplicate.is, e) (sym (counts-more l _))
 
-returns-2 : tie.Need-returns-2
+returns-2 : tie.Need-returns-in-InOrder
 unfolding counts runs_after lengthened
-returns-2 c = λ l n a e k. rw (k.is, c.before.before.before.enum-told2.given.1, e) (sym (counts-more l _))
+returns-2 c = λ l n a e k. rw (k.is, c.in-InOrder.is, e) (sym (counts-more l _))
 
-returns-3 : tie.Need-returns-3
+returns-3 : tie.Need-returns-in-Reordered
 unfolding counts runs_after ended
-returns-3 c = λ l n a e k. rw (k.is, c.before.before.before.before.before.enum-told3.given.1, e) (sym (counts-more l _))
+returns-3 c = λ l n a e k. rw (k.is, c.in-Reordered.is, e) (sym (counts-more l _))
 
-pub counts-after-spec : {M : Type 1} → statement M
-counts-after-spec =
+pub counts_after_spec : {M : Type 1} → statement M
+counts_after_spec =
     tie.close
     (tie.spec
     enum_told

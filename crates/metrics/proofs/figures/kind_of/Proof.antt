@@ -7,20 +7,20 @@ use borrow.Author.Rules.{rules}
 use Rattle.metrics.proofs.figures.kind_of.Statement.{statement}
 use Rattle.metrics.proofs.figures.kind_of.Tie as tie
 
-returns : tie.Need-returns
+returns : tie.Need-returns-then-next-number
 unfolding kind_by
 returns c =
-    let a = c.before.args in
-    rw (c.before.requires.1 c.if1.true) (simp (le-leb a.next a.number c.if1.true))
+    let a = c.args in
+    rw (c.requires.1 c.if-next-number.true) (simp (le-leb a.next a.number c.if-next-number.true))
 
-returns-2 : tie.Need-returns-2
+returns-2 : tie.Need-returns-then-seen-at
 unfolding kind_by
-returns-2 c = rw c.if2.true
+returns-2 c = rw c.if-seen-at.true
 
-returns-3 : tie.Need-returns-3
+returns-3 : tie.Need-returns
 unfolding kind_by
 returns-3 c =
-    rw c.if2.false (simp (lt-leb c.before.before.before.args.next c.before.before.before.args.number (omega arith)))
+    rw c.if-seen-at.false (simp (lt-leb c.args.next c.args.number (omega arith)))
 
-pub kind-of-spec : {M : Type 1} → statement M
-kind-of-spec = tie.close (tie.spec returns (λ c. search rules) returns-2 returns-3)
+pub kind_of_spec : {M : Type 1} → statement M
+kind_of_spec = tie.close (tie.spec returns (λ c. search rules) returns-2 returns-3)

@@ -5,11 +5,11 @@ use borrow.Author.Rules.{rules}
 use Rattle.metrics.proofs.figures.n_reordered_after.Statement.{statement}
 use Rattle.metrics.proofs.figures.n_reordered_after.Tie as tie
 
-returns : tie.Need-returns
-returns c = simp (le-leb c.before.args.n c.before.args.most (omega arith))
+returns : tie.Need-returns-then-n-most
+returns c = simp (le-leb c.args.n c.args.most (omega arith))
 
-returns-2 : tie.Need-returns-2
-returns-2 c = simp (lt-leb c.before.args.n c.before.args.most (omega arith))
+returns-2 : tie.Need-returns
+returns-2 c = simp (lt-leb c.args.n c.args.most (omega arith))
 
-pub n-reordered-after-spec : {M : Type 1} → statement M
-n-reordered-after-spec = tie.close (tie.spec (λ c. search rules) returns returns-2)
+pub n_reordered_after_spec : {M : Type 1} → statement M
+n_reordered_after_spec = tie.close (tie.spec (λ c. search rules) returns returns-2)

@@ -6,13 +6,13 @@ use borrow.Author.Rules.{rules}
 use Rattle.metrics.proofs.figures.next_after.Statement.{statement}
 use Rattle.metrics.proofs.figures.next_after.Tie as tie
 
-returns : tie.Need-returns
+returns : tie.Need-returns-then-next-number
 unfolding next_after
-returns c = simp (le-leb c.before.args.next c.before.args.number (omega arith))
+returns c = simp (le-leb c.args.next c.args.number (omega arith))
 
-returns-2 : tie.Need-returns-2
+returns-2 : tie.Need-returns
 unfolding next_after
-returns-2 c = simp (lt-leb c.before.args.next c.before.args.number (omega arith))
+returns-2 c = simp (lt-leb c.args.next c.args.number (omega arith))
 
-pub next-after-spec : {M : Type 1} → statement M
-next-after-spec = tie.close (tie.spec (λ c. search rules) returns returns-2)
+pub next_after_spec : {M : Type 1} → statement M
+next_after_spec = tie.close (tie.spec (λ c. search rules) returns returns-2)

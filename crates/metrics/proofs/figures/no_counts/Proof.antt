@@ -9,5 +9,5 @@ returns : tie.Need-returns
 unfolding counts arrived count runs
 returns c = refl
 
-pub no-counts-spec : {M : Type 1} → statement M
-no-counts-spec = tie.close (tie.spec returns)
+pub no_counts_spec : {M : Type 1} → statement M
+no_counts_spec = tie.close (tie.spec returns)

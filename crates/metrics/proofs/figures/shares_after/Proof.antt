@@ -5,31 +5,23 @@ use borrow.Author.Rules.{rules}
 use Rattle.metrics.proofs.figures.shares_after.Statement.{statement}
 use Rattle.metrics.proofs.figures.shares_after.Tie as tie
 
--- ---- places
+returns : tie.Need-returns-then-links-at-ne0
+returns c = let p = c.requires in shared-copy _ _ _ p.0 _ _ _ c.if-links-at-ne0.true
 
-abbrev start : tie.After-largest-by-links-arg2 → tie.Start
-start c = c.before.before.before.before.before.before
-
-abbrev if1-left : tie.After-largest-by-links-arg2 → tie.Else1
-if1-left c = c.before.before.before.before
-
-returns : tie.Need-returns
-returns c = let p = c.before.before.requires in shared-copy _ _ _ p.0 _ _ _ c.if1.true
-
-returns-2 : tie.Need-returns-2
+returns-2 : tie.Need-returns-then-shares-number
 returns-2 c =
-    let p = c.before.before.before.before.requires in
-    shared-in-order _ _ _ p.0 _ _ _ c.before.before.if1.false p.1 c.if2.true
+    let p = c.requires in
+    shared-in-order _ _ _ p.0 _ _ _ c.if-links-at-ne0.false p.1 c.if-shares-number.true
 
-returns-3 : tie.Need-returns-3
+returns-3 : tie.Need-returns
 returns-3 c =
-    let p = (start c.before.before.before.before).requires in
-    shared-late _ _ _ p.0 _ _ _ (if1-left c.before.before.before.before).if1.false p.1
-    c.before.before.before.before.before.before.if2.false _ c.before.before.before.largest-by-links.ensures.1
-    _ _ c.before.n-reordered-after.ensures c.n-reordered-after2.ensures
+    let p = c.requires in
+    shared-late _ _ _ p.0 _ _ _ c.if-links-at-ne0.false p.1
+    c.if-shares-number.false _ c.largest_by_links-largest.ensures.1
+    _ _ c.n_reordered_after.ensures c.n_reordered_after-2.ensures
 
-pub shares-after-spec : {M : Type 1} → statement M
-shares-after-spec =
+pub shares_after_spec : {M : Type 1} → statement M
+shares_after_spec =
     tie.close
     (tie.spec
     (λ c. search rules) (λ c. search rules)

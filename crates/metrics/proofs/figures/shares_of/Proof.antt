@@ -16,30 +16,30 @@ use Rattle.metrics.proofs.figures.shares_of.Statement.{statement}
 use Rattle.metrics.proofs.figures.shares_of.Tie as tie
 
 -- numbers₀, links₀, shares₀ and i₀ are the values where the loop begins, numbers, links, shares and i those at its head
-abbrev invariant-loop : tie.invariant-loop
-invariant-loop file layout low high numbers₀ links₀ shares₀ i₀ numbers links shares i =
+abbrev invariant-loop-i : tie.invariant-loop-i
+invariant-loop-i file layout low high numbers₀ links₀ shares₀ i₀ numbers links shares i =
     (i ≤ layout.arrivals) × ShareTables low high (size_of (decode file)) (before (decode file) i) numbers links shares
 
-abbrev decreases-loop : tie.decreases-loop
-decreases-loop file layout low high numbers₀ links₀ shares₀ i₀ numbers links shares i = layout.arrivals - i
+abbrev decreases-loop-i : tie.decreases-loop-i
+decreases-loop-i file layout low high numbers₀ links₀ shares₀ i₀ numbers links shares i = layout.arrivals - i
 
 -- record i + 1 is there
-here : (c : tie.After-number-of invariant-loop decreases-loop) → HasRecord (decode c.before.before.before.before.before.args.file.now)
-    c.before.before.before.before.before.args.layout c.before.before.before.loop.i
-here c = record { file = c.before.before.before.before.before.requires; inside = c.before.if1.true }
+here : (c : tie.After-number_of-number invariant-loop-i decreases-loop-i) → HasRecord (decode c.args.file.now)
+    c.args.layout c.loop-i.i
+here c = record { file = c.requires; inside = c.loop-i-test.true }
 
-loop-holds : tie.Need-loop-init invariant-loop decreases-loop
-loop-holds c = (omega arith, shares-start _ _ (decode c.before.args.file.now))
+loop-holds : tie.Need-loop-i-init invariant-loop-i decreases-loop-i
+loop-holds c = (omega arith, shares-start _ _ (decode c.args.file.now))
 
-number-of-requires : tie.Need-number-of-requires invariant-loop decreases-loop
-number-of-requires c κs = record { file = c.before.before.before.before.requires; inside = c.if1.true }
+number-of-requires : tie.Need-number_of-number-requires invariant-loop-i decreases-loop-i
+number-of-requires c κs = record { file = c.requires; inside = c.loop-i-test.true }
 
-shares-after-requires : tie.Need-shares-after-requires invariant-loop decreases-loop
+shares-after-requires : tie.Need-shares_after-shares-requires invariant-loop-i decreases-loop-i
 shares-after-requires c κs =
-    let t = c.before.before.before.before.before.loop.invariant.1 in
+    let t = c.loop-i.invariant.1 in
     let h = here c.before.before in
     let few = shares-few _ _ _ _ _ t.shares (omega (arith, before-length _ _ _ h, h.inside, h.file.few)) in (
-      c.before.before.number_of.ensures.2,
+      c.number_of-number.ensures.2,
       few.0,
       few.1,
       few.2,
@@ -49,32 +49,32 @@ shares-after-requires c κs =
       (links-laid _ _ _ h _ _ _ _ t.numbered t.linked).1,
     )
 
-add-i : tie.Need-overflow-add-i invariant-loop decreases-loop
+add-i : tie.Need-overflow_add-i invariant-loop-i decreases-loop-i
 add-i c = let h = here c.before.before.before in omega (arith, h.inside, h.file.few)
 
-loop-less : tie.Need-loop-smaller invariant-loop decreases-loop
+loop-less : tie.Need-loop-i-smaller invariant-loop-i decreases-loop-i
 loop-less c = omega (arith, (here c.before.before.before).inside)
 
-loop-again : tie.Need-loop-preserved invariant-loop decreases-loop
+loop-again : tie.Need-loop-i-preserved invariant-loop-i decreases-loop-i
 loop-again c =
     let h = here c.before.before.before in (
       omega (arith, h.inside),
-      rw (before_more _ _ _ h) (c.shares-after.ensures _ _ _ (sym c.before.before.before.number_of.ensures.0)
-          c.before.before.before.before.before.before.loop.invariant.1),
+      rw (before_more _ _ _ h) (c.shares_after-shares.ensures _ _ _ (sym c.number_of-number.ensures.0)
+          c.loop-i.invariant.1),
     )
 
-returns : tie.Need-returns invariant-loop decreases-loop
+returns : tie.Need-returns invariant-loop-i decreases-loop-i
 returns c =
-    let d = decode c.before.before.before.before.args.file.now in
-    c.before.before.loop.invariant.1.shares ∙ ap (shares_of _ _ (size_of d))
-    (take_all c.before.before.loop.i (sample_arrivals d) (omega (arith, arrivals-laid _ _ c.before.before.before.before.requires)))
+    let d = decode c.args.file.now in
+    c.loop-i.invariant.1.shares ∙ ap (shares_of _ _ (size_of d))
+    (take_all c.loop-i.i (sample_arrivals d) (omega (arith, arrivals-laid _ _ c.requires)))
 
-pub shares-of-spec : {M : Type 1} → statement M
-shares-of-spec =
+pub shares_of_spec : {M : Type 1} → statement M
+shares_of_spec =
     tie.close
     (tie.spec
-    invariant-loop
-    decreases-loop
+    invariant-loop-i
+    decreases-loop-i
     loop-holds
     number-of-requires
     shares-after-requires

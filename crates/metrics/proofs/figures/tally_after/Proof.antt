@@ -8,65 +8,65 @@ use borrow.Author.Rules.{rules}
 use Rattle.metrics.proofs.figures.tally_after.Statement.{statement}
 use Rattle.metrics.proofs.figures.tally_after.Tie as tie
 
-enum_told : tie.Need-enum-told
+enum_told : tie.Need-enum_told-1
 enum_told c = search rules
 
-returns : tie.Need-returns
+returns : tie.Need-returns-in-Duplicate
 unfolding tally_after
-returns c = λ a k. rw (k.is, c.enum_told.given.1)
+returns c = λ a k. rw (k.is, c.in-Duplicate.is)
 
-returns-2 : tie.Need-returns-2
+returns-2 : tie.Need-returns-in-InOrder
 unfolding tally_after
-returns-2 c = λ a k. rw (k.is, c.enum-told2.given.1)
+returns-2 c = λ a k. rw (k.is, c.in-InOrder.is)
 
-sub-tally-place : tie.Need-overflow-sub-tally-place
-sub-tally-place c = let p = rw c.before.class.given.1 at c.before.before.before.requires.3 in omega (arith, p)
+sub-tally-place : tie.Need-overflow_sub-count
+sub-tally-place c = let p = rw c.in-Reordered.is at c.requires.3 in omega (arith, p)
 
-mul-tally : tie.Need-overflow-mul-tally
+mul-tally : tie.Need-offset_bounds-tally-place
 mul-tally c =
     omega (
       arith,
-      c.tally-place.ensures,
-      place-lt (c.before.before.before.before.args.count + 1
-          - c.before.before.class.given.0.0),
+      c.tally_place-place.ensures,
+      place-lt (c.args.count + 1
+          - c.in-Reordered.at),
     )
 
-element-copy-out-tally : tie.Need-element-copy-out-tally
+element-copy-out-tally : tie.Need-bounds-tally-place
 element-copy-out-tally c =
     omega (
       arith,
-      c.tally-place.ensures,
-      place-lt (c.before.before.before.before.args.count + 1
-          - c.before.before.class.given.0.0),
+      c.tally_place-place.ensures,
+      place-lt (c.args.count + 1
+          - c.in-Reordered.at),
     )
 
-add-tally : tie.Need-overflow-add-tally
-add-tally c = omega (arith, c.before.before.before.before.before.requires.1 c.before.tally-place.result)
+add-tally : tie.Need-overflow_add-tally
+add-tally c = omega (arith, c.requires.1 c.tally_place-place.result)
 
-mul-tally-2 : tie.Need-overflow-mul-tally-2
+mul-tally-2 : tie.Need-offset_bounds-tally-place-in-Reordered
 mul-tally-2 c =
     omega (
       arith,
-      c.before.tally-place.ensures,
-      place-lt (c.before.before.before.before.before.args.count + 1
-          - c.before.before.before.class.given.0.0),
+      c.tally_place-place.ensures,
+      place-lt (c.args.count + 1
+          - c.in-Reordered.at),
     )
 
-element-write-tally : tie.Need-element-write-tally
+element-write-tally : tie.Need-bounds-tally-place-in-Reordered
 element-write-tally c =
     omega (
       arith,
-      c.before.tally-place.ensures,
-      place-lt (c.before.before.before.before.before.args.count + 1
-          - c.before.before.before.class.given.0.0),
+      c.tally_place-place.ensures,
+      place-lt (c.args.count + 1
+          - c.in-Reordered.at),
     )
 
-returns-3 : tie.Need-returns-3
+returns-3 : tie.Need-returns
 unfolding tally_after one_more_at
-returns-3 c = λ a k. rw (k.is, c.before.before.before.class.given.1, c.before.tally-place.ensures)
+returns-3 c = λ a k. rw (k.is, c.in-Reordered.is, c.tally_place-place.ensures)
 
-pub tally-after-spec : {M : Type 1} → statement M
-tally-after-spec =
+pub tally_after_spec : {M : Type 1} → statement M
+tally_after_spec =
     tie.close
     (tie.spec
     enum_told

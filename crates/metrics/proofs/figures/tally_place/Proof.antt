@@ -5,13 +5,13 @@ use Rattle.rfc4737.specs.Tally.{tally_place, tally_most}
 use Rattle.metrics.proofs.figures.tally_place.Statement.{statement}
 use Rattle.metrics.proofs.figures.tally_place.Tie as tie
 
-returns : tie.Need-returns
+returns : tie.Need-returns-then-extent-le-TALLY_MOST
 unfolding tally_place
-returns c = simp (le-leb c.before.args.extent tally_most (omega arith))
+returns c = simp (le-leb c.args.extent tally_most (omega arith))
 
-returns-2 : tie.Need-returns-2
+returns-2 : tie.Need-returns
 unfolding tally_place
-returns-2 c = simp (lt-leb c.before.args.extent tally_most (omega arith))
+returns-2 c = simp (lt-leb c.args.extent tally_most (omega arith))
 
-pub tally-place-spec : {M : Type 1} → statement M
-tally-place-spec = tie.close (tie.spec returns returns-2)
+pub tally_place_spec : {M : Type 1} → statement M
+tally_place_spec = tie.close (tie.spec returns returns-2)

@@ -29,38 +29,38 @@ own c = ap (λ (layout : Layout). layout.refusal) c.requires.laid
 
 -- ---- places in the code: the start, from where the file is not refused, and that place, from where the lines are made
 
-abbrev start : tie.Else1 → tie.Start
+abbrev start : tie.Else-layout-ne-NONE → tie.Start
 start k = k.before.before.before
 
-abbrev unrefused : tie.After-none2 → tie.Else1
+abbrev unrefused : tie.After-none-2-1 → tie.Else-layout-ne-NONE
 unrefused n = n.before.before.before.before
 
-returns : tie.Need-returns
+returns : tie.Need-returns-then-layout-ne-NONE
 returns c =
-    let s = c.before.before.before in
-    refusal-own (own_refusal s) (text s) s.args.room _ (own s) c.if1.true
+    let s = c in
+    refusal-own (own_refusal s.before.before.before) (text s.before.before.before) s.args.room _ (own s.before.before.before) c.if-layout-ne-NONE.true
 
-returns-2 : tie.Need-returns-2
+returns-2 : tie.Need-returns-then-room-ge-LISTING_OCTETS
 returns-2 c =
     let s = start c.before in
-    let octets = below-fits w8 s.args.file.now c.before.before.before.shared-slice-known.given in
+    let octets = below-fits w8 s.args.file.now c.shared_slice_known-1.given in
     let fits : length (text s) ≤ s.args.room =
-    omega (arith, c.if2.true, sample-within s.args.file.now s.args.layout s.pre octets) in
-    refusal-none (own_refusal s) (text s) s.args.room (sym (own s) ∙ c.before.if1.false) fits
+    omega (arith, c.if-room-ge-LISTING_OCTETS.true, sample-within s.args.file.now s.args.layout s.requires octets) in
+    refusal-none (own_refusal s) (text s) s.args.room (sym (own s) ∙ c.if-layout-ne-NONE.false) fits
 
-returns-3 : tie.Need-returns-3
+returns-3 : tie.Need-returns-then-room-write_listing
 returns-3 c =
     let s = start (unrefused c.before) in
-    refusal-short (own_refusal s) (text s) s.args.room (sym (own s) ∙ (unrefused c.before).if1.false)
-    (omega (arith, c.if3.true, c.before.before.write-listing.ensures.0))
+    refusal-short (own_refusal s) (text s) s.args.room (sym (own s) ∙ (unrefused c.before).if-layout-ne-NONE.false)
+    (omega (arith, c.if-room-write_listing.true, c.write_listing.ensures.0))
 
-returns-4 : tie.Need-returns-4
+returns-4 : tie.Need-returns
 returns-4 c =
     let s = start (unrefused c.before) in
-    refusal-none (own_refusal s) (text s) s.args.room (sym (own s) ∙ (unrefused c.before).if1.false)
-    (omega (arith, c.if3.false, c.before.before.write-listing.ensures.0))
+    refusal-none (own_refusal s) (text s) s.args.room (sym (own s) ∙ (unrefused c.before).if-layout-ne-NONE.false)
+    (omega (arith, c.if-room-write_listing.false, c.write_listing.ensures.0))
 
-pub listing-refusal-spec : {M : Type 1} → statement M
-listing-refusal-spec =
+pub listing_refusal_spec : {M : Type 1} → statement M
+listing_refusal_spec =
     tie.close
     (tie.spec returns returns-2 (λ c. search rules) (λ c κs. search rules) (λ c. search rules) returns-3 returns-4)

@@ -16,29 +16,29 @@ use Rattle.metrics.proofs.report.write_listing.Tie as tie
 
 -- ---- places
 
-abbrev start : tie.After-take-all-arg2 → tie.Start
+abbrev start : tie.After-take_all-arg-2-1 → tie.Start
 start c = c.before.before.before.before
 
-take-all-requires : tie.Need-take-all-requires
+take-all-requires : tie.Need-take_all-part-requires
 take-all-requires c κs =
-    (c.before.before.before.before.requires, record { room = λ e. absurd (true≢false (sym e)); inside = λ e. absurd (true≢false (sym e)) })
+    (c.requires, record { room = λ e. absurd (true≢false (sym e)); inside = λ e. absurd (true≢false (sym e)) })
 
-cast-result : tie.Need-overflow-cast-result
+cast-result : tie.Need-overflow_cast-result
 cast-result c =
-    let a = (start c.before.before.before.before).args in
+    let a = (start c.before.before.before.before.before).args in
     omega (
       arith,
-      ap (λ (r : Part). r.octets) (c.before.before.before.take_all.ensures.listed refl).0,
-      sample-within a.file.now a.layout (start c.before.before.before.before).requires
-          (below-fits w8 a.file.now c.before.before.before.before.before.before.before.shared-slice-known.given),
+      ap (λ (r : Part). r.octets) (c.take_all-part.ensures.listed refl).0,
+      sample-within a.file.now a.layout (start c.before.before.before.before.before).requires
+          (below-fits w8 a.file.now c.shared_slice_known-1.given),
     )
 
 returns : tie.Need-returns
 returns c =
-    let r = c.before.before.before.take_all.ensures.listed refl in
-    let a = (start c.before.before.before.before).args in
+    let r = c.take_all-part.ensures.listed refl in
+    let a = (start c.before.before.before.before.before).args in
     let n = ap (λ (r : Part). r.octets) r.0 in
     (n, λ fits. r.1 (omega (arith, fits, n)) ∙ sym (over-splice (sample_text (decode a.file.now)) a.out.now))
 
-pub write-listing-spec : {M : Type 1} → statement M
-write-listing-spec = tie.close (tie.spec (λ c. search rules) take-all-requires cast-result (λ c. search rules) returns)
+pub write_listing_spec : {M : Type 1} → statement M
+write_listing_spec = tie.close (tie.spec take-all-requires cast-result (λ c. search rules) returns)

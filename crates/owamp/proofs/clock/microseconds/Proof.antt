@@ -8,5 +8,5 @@ use Rattle.owamp.proofs.clock.microseconds.Tie as tie
 returns : tie.Need-returns
 returns c = by-halves c.args.stamp
 
-pub microseconds-spec : {M : Type 1} → statement M
-microseconds-spec = tie.close (tie.spec (λ c. search rules) (λ c. search rules) (λ c. search rules) returns)
+pub microseconds_spec : {M : Type 1} → statement M
+microseconds_spec = tie.close (tie.spec (λ c. search rules) (λ c. search rules) (λ c. search rules) returns)

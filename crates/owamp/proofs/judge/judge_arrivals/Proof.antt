@@ -11,45 +11,45 @@ use Rattle.owamp.proofs.judge.judge_arrivals.Statement.{statement}
 use Rattle.owamp.proofs.judge.judge_arrivals.Tie as tie
 
 -- arrivals₀, refusal₀ and i₀ are the values where the loop begins, arrivals, refusal and i those at its head
-abbrev invariant-loop : tie.invariant-loop
-invariant-loop records k count arrivals₀ refusal₀ i₀ arrivals refusal i = Judging k records i arrivals refusal
+abbrev invariant-loop-i : tie.invariant-loop-i
+invariant-loop-i records k count arrivals₀ refusal₀ i₀ arrivals refusal i = Judging k records i arrivals refusal
 
-abbrev decreases-loop : tie.decreases-loop
-decreases-loop records k count arrivals₀ refusal₀ i₀ arrivals refusal i = record_count records - i
+abbrev decreases-loop-i : tie.decreases-loop-i
+decreases-loop-i records k count arrivals₀ refusal₀ i₀ arrivals refusal i = record_count records - i
 
 -- the loop's head, from where a record is an arrival
-abbrev head : tie.Then1 invariant-loop decreases-loop → tie.At-loop invariant-loop decreases-loop
+abbrev head : tie.Then-time-ne0 invariant-loop-i decreases-loop-i → tie.At-loop-i invariant-loop-i decreases-loop-i
 head c = c.before.before.before.before
 
-add-arrivals : tie.Need-overflow-add-arrivals invariant-loop decreases-loop
-add-arrivals c = omega (arith, (head c).loop.invariant.few)
+add-arrivals : tie.Need-overflow_add-arrivals invariant-loop-i decreases-loop-i
+add-arrivals c = omega (arith, (head c).loop-i.invariant.few)
 
-loop-again : tie.Need-loop-preserved invariant-loop decreases-loop
+loop-again : tie.Need-loop-i-preserved-then-time-ne0 invariant-loop-i decreases-loop-i
 loop-again c =
-    let t = c.before.before in
-    let l = head t in
-    let a = l.before.before.args in
-    judging-next a.k a.records.now l.loop.inv (search rules) (λ z. t.if1.true (t.before.time-of.ensures ∙ z))
-    t.before.before.number_of.ensures c.before.judge-number.ensures c.first_of.ensures
+    let t = c in
+    let l = head t.before.before in
+    let a = l.args in
+    judging-next a.k a.records.now l.loop-i.invariant (search rules) (λ z. t.if-time-ne0.true (t.time_of-time.ensures ∙ z))
+    t.number_of-number.ensures c.judge_number.ensures c.first_of-refusal.ensures
 
-loop-again-2 : tie.Need-loop-preserved-2 invariant-loop decreases-loop
+loop-again-2 : tie.Need-loop-i-preserved invariant-loop-i decreases-loop-i
 loop-again-2 c =
-    let l = c.before.before.before.before in
-    let a = l.before.before.args in
-    judging-lost a.k a.records.now l.loop.invariant (search rules) (sym c.before.time-of.ensures ∙ c.if1.false)
+    let l = c in
+    let a = l.args in
+    judging-lost a.k a.records.now l.loop-i.invariant (search rules) (sym c.time_of-time.ensures ∙ c.if-time-ne0.false)
 
-returns : tie.Need-returns invariant-loop decreases-loop
+returns : tie.Need-returns invariant-loop-i decreases-loop-i
 returns c =
-    let l = c.before in
-    let a = l.before.before.args in
-    judging-done a.k a.records.now l.loop.invariant (search rules)
+    let l = c in
+    let a = l.args in
+    judging-done a.k a.records.now l.loop-i.invariant (search rules)
 
-pub judge-arrivals-spec : {M : Type 1} → statement M
-judge-arrivals-spec =
+pub judge_arrivals_spec : {M : Type 1} → statement M
+judge_arrivals_spec =
     tie.close
     (tie.spec
-    invariant-loop
-    decreases-loop
+    invariant-loop-i
+    decreases-loop-i
     (λ c. judging-start _ _)
     (λ c κs. search rules) (λ c κs. search rules) (λ c. search rules)
     add-arrivals

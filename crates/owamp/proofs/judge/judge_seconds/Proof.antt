@@ -58,65 +58,65 @@ abbrev refusals : List ℕ → List ℕ
 refusals file = map judge_arrival (arrivals_of_file file)
 
 -- greatest₀ and i₀ are the values where the loop begins, greatest and i those at its head
-abbrev invariant-loop : tie.invariant-loop
-invariant-loop file found count greatest₀ i₀ greatest i =
+abbrev invariant-loop-i : tie.invariant-loop-i
+invariant-loop-i file found count greatest₀ i₀ greatest i =
     (i ≤ count) × (first_refusal (refusals file) ≡ first_refusal (judge_time greatest ∷ drop i (refusals file)))
 
-abbrev decreases-loop : tie.decreases-loop
-decreases-loop file found count greatest₀ i₀ greatest i = count - i
+abbrev decreases-loop-i : tie.decreases-loop-i
+decreases-loop-i file found count greatest₀ i₀ greatest i = count - i
 
 -- as many as the layout says
-many : (c : tie.At-loop invariant-loop decreases-loop) → let a = c.before.before.args in length (refusals a.file.now) ≡ a.layout.arrivals
+many : (c : tie.At-loop-i invariant-loop-i decreases-loop-i) → let a = c.args in length (refusals a.file.now) ≡ a.layout.arrivals
 many c =
-    let a = c.before.before in
+    let a = c in
     length-map (arrivals_of_file a.args.file.now) judge_arrival ∙ sym (found-many a.args.file.now a.args.layout a.requires.0)
 
 -- the one at i is that of the arrival that was read
-found : (c : tie.After-arrival invariant-loop decreases-loop)
-    → judge_arrival c.arrival.result ≡ get_or (refusals c.before.before.before.before.args.file.now)
-    c.before.before.loop.i (judge_arrival no_arrival)
+found : (c : tie.After-arrival invariant-loop-i decreases-loop-i)
+    → judge_arrival c.arrival.result ≡ get_or (refusals c.args.file.now)
+    c.loop-i.i (judge_arrival no_arrival)
 found c =
-    let a = c.before.before.before.before in
-    let i = c.before.before.loop.i in
+    let a = c in
+    let i = c.loop-i.i in
     ap judge_arrival (c.arrival.ensures.1 a.requires.0 (search rules))
     ∙ sym (get_or-map judge_arrival (arrivals_of_file a.args.file.now) i no_arrival)
 
-loop-holds : tie.Need-loop-init invariant-loop decreases-loop
+loop-holds : tie.Need-loop-i-init invariant-loop-i decreases-loop-i
 unfolding judge_time
 loop-holds c = (search rules, refl)
 
-loop-again : tie.Need-loop-preserved invariant-loop decreases-loop
+loop-again : tie.Need-loop-i-preserved invariant-loop-i decreases-loop-i
 loop-again c =
-    let l = c.before.before.before in
-    let rs = refusals l.before.before.args.file.now in
-    let i = l.loop.i in
-    let g = l.loop.greatest in
-    let h : i < length rs = omega (arith, many l, c.before.before.loop-test.true) in (
+    let l = c in
+    let rs = refusals l.args.file.now in
+    let i = l.loop-i.i in
+    let g = l.loop-i.greatest in
+    let h : i < length rs = omega (arith, many l.before.before.before, c.loop-i-test.true) in (
       search rules,
-      l.loop.invariant.1
+      l.loop-i.invariant.1
           ∙ ap (λ (x : List ℕ). first_refusal (judge_time g ∷ x))
           (drop-cons rs i (judge_arrival no_arrival) h ∙ ap (λ (x : ℕ). x ∷ drop (suc i) rs) (sym (found c.before)))
-          ∙ greater g c.before.arrival.result.time (drop (suc i) rs)
-          ∙ ap (λ (x : ℕ). first_refusal (judge_time x ∷ drop (suc i) rs)) (sym c.next-reference.ensures)
-          ∙ ap (λ (x : ℕ). first_refusal (judge_time c.next-reference.result ∷ drop x rs)) (sym (add-one i)),
+          ∙ greater g c.arrival.result.time (drop (suc i) rs)
+          ∙ ap (λ (x : ℕ). first_refusal (judge_time x ∷ drop (suc i) rs)) (sym c.next_reference-greatest.ensures)
+          ∙ ap (λ (x : ℕ). first_refusal (judge_time c.next_reference-greatest.result ∷ drop x rs)) (sym (add-one i)),
     )
 
-returns : tie.Need-returns invariant-loop decreases-loop
+returns : tie.Need-returns invariant-loop-i decreases-loop-i
 unfolding judge_seconds
 returns c =
-    let l = c.before.before in
-    let rs = refusals l.before.before.args.file.now in
-    let h : length rs ≤ l.loop.i = omega (arith, many l, c.before.loop-test.false) in
-    c.judge-time.ensures
-    ∙ sym (l.loop.invariant.1 ∙ ap (λ (x : List ℕ). first_refusal (judge_time l.loop.greatest ∷ x)) (drop_of_length-le rs h)
-    ∙ first_one (judge_time l.loop.greatest))
+    let l = c in
+    let rs = refusals l.args.file.now in
+    let h : length rs ≤ l.loop-i.i = omega (arith, many l.before.before, c.loop-i-test.false) in
+    c.judge_time.ensures
+    ∙ sym (l.loop-i.invariant.1 ∙ ap (λ (x : List ℕ). first_refusal (judge_time l.loop-i.greatest ∷ x)) (drop_of_length-le rs h)
+    ∙ first_one (judge_time l.loop-i.greatest))
 
-pub judge-seconds-spec : {M : Type 1} → statement M
-judge-seconds-spec =
+pub judge_seconds_spec : {M : Type 1} → statement M
+judge_seconds_spec =
     tie.close
     (tie.spec
-    invariant-loop
-    decreases-loop
+    invariant-loop-i
+    decreases-loop-i
     loop-holds
     (λ c κs. search rules) (λ c κs. search rules)
     (λ c. search rules) (λ c. search rules)

@@ -13,41 +13,41 @@ use Rattle.rfc4737.proofs.Due.{first_one}
 use Rattle.owamp.proofs.judge.records_refusal.Statement.{statement}
 use Rattle.owamp.proofs.judge.records_refusal.Tie as tie
 
-returns : tie.Need-returns
+returns : tie.Need-returns-then-records-ne0
 unfolding records_refusal
-returns c = simp (ne_eqb _ _ c.if1.true)
+returns c = simp (ne_eqb _ _ c.if-records-ne0.true)
 
-returns-2 : tie.Need-returns-2
+returns-2 : tie.Need-returns-then-outside
 unfolding records_refusal
 returns-2 c =
-    let h = sym c.before.outside.ensures ∙ c.if2.true in
-    simp (eq-eqb _ _ c.before.before.if1.false, h)
+    let h = sym c.outside.ensures ∙ c.if-outside.true in
+    simp (eq-eqb _ _ c.if-records-ne0.false, h)
 
-returns-3 : tie.Need-returns-3
+returns-3 : tie.Need-returns-then-outside-2
 unfolding records_refusal
 returns-3 c =
-    let a = c.before.before.before.before.before.before in
-    let h = sym c.before.before.before.outside.ensures ∙ c.before.before.if2.false in
+    let a = c in
+    let h = sym c.outside.ensures ∙ c.if-outside.false in
     let g : outside 0 arrivals_most (length (records_arrivals a.args.records.now)) ≡ true =
-    ap (outside 0 arrivals_most) (sym a.requires.0) ∙ sym c.before.outside2.ensures ∙ c.if3.true in
-    simp (eq-eqb _ _ c.before.before.before.before.if1.false, h, g)
+    ap (outside 0 arrivals_most) (sym a.requires.0) ∙ sym c.outside-2.ensures ∙ c.if-outside-2.true in
+    simp (eq-eqb _ _ c.if-records-ne0.false, h, g)
 
-returns-4 : tie.Need-returns-4
+returns-4 : tie.Need-returns
 unfolding records_refusal
 returns-4 c =
-    let a = c.before.before.before.before.before.before in
-    let h = sym c.before.before.before.outside.ensures ∙ c.before.before.if2.false in
+    let a = c in
+    let h = sym c.outside.ensures ∙ c.if-outside.false in
     let g : outside 0 arrivals_most (length (records_arrivals a.args.records.now)) ≡ false =
-    ap (outside 0 arrivals_most) (sym a.requires.0) ∙ sym c.before.outside2.ensures ∙ c.if3.false in
+    ap (outside 0 arrivals_most) (sym a.requires.0) ∙ sym c.outside-2.ensures ∙ c.if-outside-2.false in
     simp (
-      eq-eqb _ _ c.before.before.before.before.if1.false,
+      eq-eqb _ _ c.if-records-ne0.false,
       h,
       g,
       first_one (judge_numbers a.args.k (records_arrivals a.args.records.now)),
     ) a.requires.1
 
-pub records-refusal-spec : {M : Type 1} → statement M
-records-refusal-spec =
+pub records_refusal_spec : {M : Type 1} → statement M
+records_refusal_spec =
     tie.close
     (tie.spec
     returns

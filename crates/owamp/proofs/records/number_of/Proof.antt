@@ -8,22 +8,22 @@ use Rattle.owamp.proofs.Reading.{number-stands, four_below}
 use Rattle.owamp.proofs.records.number_of.Statement.{statement}
 use Rattle.owamp.proofs.records.number_of.Tie as tie
 
-add-result : tie.Need-overflow-add-result
+add-result : tie.Need-overflow_add-result
 add-result c =
-    let a = c.before.before.before.args in
+    let a = c.args in
     omega (
       arith,
-      four_below a.records.now a.i 0 (below-fits w8 a.records.now c.before.before.shared-slice-known.given)
+      four_below a.records.now a.i 0 (below-fits w8 a.records.now c.shared_slice_known-1.given)
           c.number_at.ensures,
     )
 
 returns : tie.Need-returns
 returns c =
-    number-stands c.before.before.before.args.records.now c.before.before.before.args.i (search rules)
+    number-stands c.args.records.now c.args.i (search rules)
     c.number_at.ensures
 
-pub number-of-spec : {M : Type 1} → statement M
-number-of-spec =
+pub number_of_spec : {M : Type 1} → statement M
+number_of_spec =
     tie.close
     (tie.spec
     (λ c. search rules) (λ c. search rules) (λ c. search rules) (λ c. search rules) (λ c. search rules)

@@ -11,27 +11,27 @@ use Rattle.owamp.proofs.records.time_of.Statement.{statement}
 use Rattle.owamp.proofs.records.time_of.Tie as tie
 
 -- both were read
-below : (c : tie.After-number-at2) → (c.before.number_at.result < fractions) × (c.number-at2.result < fractions)
+below : (c : tie.After-number_at-fraction) → (c.number_at-seconds.result < fractions) × (c.number_at-fraction.result < fractions)
 below c =
-    let a = c.before.before.before.before.args in
-    let o = below-fits w8 a.records.now c.before.before.before.shared-slice-known.given in (
-      four_below a.records.now a.i 16 o c.before.number_at.ensures,
-      four_below a.records.now a.i 20 o c.number-at2.ensures,
+    let a = c.args in
+    let o = below-fits w8 a.records.now c.shared_slice_known-1.given in (
+      four_below a.records.now a.i 16 o c.number_at-seconds.ensures,
+      four_below a.records.now a.i 20 o c.number_at-fraction.ensures,
     )
 
-mul-result : tie.Need-overflow-mul-result
+mul-result : tie.Need-overflow_mul-result
 mul-result c = omega (arith, below c)
 
-add-result : tie.Need-overflow-add-result
+add-result : tie.Need-overflow_add-result
 add-result c = omega (arith, below c)
 
 returns : tie.Need-returns
 returns c =
-    let a = c.before.before.before.before.args in
-    time-stands a.records.now a.i (search rules) c.before.number_at.ensures c.number-at2.ensures
+    let a = c.args in
+    time-stands a.records.now a.i (search rules) c.number_at-seconds.ensures c.number_at-fraction.ensures
 
-pub time-of-spec : {M : Type 1} → statement M
-time-of-spec =
+pub time_of_spec : {M : Type 1} → statement M
+time_of_spec =
     tie.close
     (tie.spec
     (λ c. search rules) (λ c. search rules) (λ c. search rules) (λ c. search rules) (λ c. search rules)

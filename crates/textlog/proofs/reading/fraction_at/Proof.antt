@@ -10,67 +10,67 @@ use Rattle.textlog.proofs.reading.fraction_at.Statement.{statement}
 use Rattle.textlog.proofs.reading.fraction_at.Tie as tie
 
 -- places: where the digits are read, and the entry
-abbrev digits-at : tie.After-octet-at → tie.After-number-at
+abbrev digits-at : tie.After-octet_at → tie.After-number_at-digits
 digits-at c = c.before.before.before
 
-abbrev entry : tie.After-number-at → tie.Start
+abbrev entry : tie.After-number_at-digits → tie.Start
 entry c = c.before.before
 
-sub-count : tie.Need-overflow-sub-count
+sub-count : tie.Need-overflow_sub-count
 sub-count c =
-    let a = c.before.before.args in
-    omega (arith, onward a.log.now a.at c.number_at.result c.number_at.ensures.0)
+    let a = c.args in
+    omega (arith, onward a.log.now a.at c.number_at-digits.result c.number_at-digits.ensures.0)
 
-returns : tie.Need-returns
+returns : tie.Need-returns-then-count-eq0
 returns c =
-    let a = c.before.before.before.args in
-    let r = c.before.number_at in
-    fraction-none a.log.now a.at r.result r.ensures.0 a.number a.whole c.if1.true
+    let a = c.args in
+    let r = c.number_at-digits in
+    fraction-none a.log.now a.at r.result r.ensures.0 a.number a.whole c.if-count-eq0.true
 
-returns-2 : tie.Need-returns-2
+returns-2 : tie.Need-returns-then-count-gt-DECIMALS_MOST
 returns-2 c =
     let a = (entry c.before.before).args in
-    let r = c.before.before.number_at in
-    fraction-many a.log.now a.at r.result r.ensures.0 a.number a.whole c.if2.true
+    let r = c.number_at-digits in
+    fraction-many a.log.now a.at r.result r.ensures.0 a.number a.whole c.if-count-gt-DECIMALS_MOST.true
 
-returns-3 : tie.Need-returns-3
+returns-3 : tie.Need-returns-then-octet_at-ne10
 returns-3 c =
     let a = (entry (digits-at c.before)).args in
-    let r = (digits-at c.before).number_at in
-    fraction-other a.log.now a.at r.result r.ensures.0 a.number a.whole c.before.before.before.if1.false
-    c.before.before.if2.false (λ o. c.if3.true (c.before.octet-at.ensures ∙ o))
+    let r = (digits-at c.before).number_at-digits in
+    fraction-other a.log.now a.at r.result r.ensures.0 a.number a.whole c.if-count-eq0.false
+    c.if-count-gt-DECIMALS_MOST.false (λ o. c.if-octet_at-ne10.true (c.octet_at.ensures ∙ o))
 
 thousandths-requires : tie.Need-thousandths-requires
 thousandths-requires c κs =
     let a = (entry (digits-at c.before)).args in
-    let r = (digits-at c.before).number_at in
-    let some = c.before.before.before.if1.false in
-    let few = c.before.before.if2.false in
+    let r = (digits-at c.before).number_at-digits in
+    let some = c.if-count-eq0.false in
+    let few = c.if-count-gt-DECIMALS_MOST.false in
     let s =
     small a.log.now a.at r.result r.ensures.0 a.number a.whole some few
-    (sym c.before.octet-at.ensures ∙ c.if3.false) in
+    (sym c.octet_at.ensures ∙ c.if-octet_at-ne10.false) in
     omega (arith, some, few)
 
-add-in-range : tie.Need-overflow-add-in-range
+add-in-range : tie.Need-overflow_add-end
 add-in-range c =
     let a = (entry (digits-at c.before.before)).args in
-    let r = (digits-at c.before.before).number_at in
+    let r = (digits-at c.before.before).number_at-digits in
     let b =
     within-log a.log.now a.at r.result r.ensures.0 line_feed
-    (sym c.before.before.octet-at.ensures ∙ c.before.if3.false) (omega arith) in
+    (sym c.octet_at.ensures ∙ c.if-octet_at-ne10.false) (omega arith) in
     omega arith
 
-returns-4 : tie.Need-returns-4
+returns-4 : tie.Need-returns
 returns-4 c =
     let a = (entry (digits-at c.before.before.before)).args in
-    let r = (digits-at c.before.before.before).number_at in
+    let r = (digits-at c.before.before.before).number_at-digits in
     fraction-ends a.log.now a.at r.result r.ensures.0 a.number a.whole
-    c.before.before.before.before.before.if1.false c.before.before.before.before.if2.false
-    (sym c.before.before.before.octet-at.ensures ∙ c.before.before.if3.false)
-    c.before.thousandths.result c.before.thousandths.ensures c.in-range.ensures
+    c.if-count-eq0.false c.if-count-gt-DECIMALS_MOST.false
+    (sym c.octet_at.ensures ∙ c.if-octet_at-ne10.false)
+    c.thousandths.result c.thousandths.ensures c.in_range.ensures
 
-pub fraction-at-spec : {M : Type 1} → statement M
-fraction-at-spec =
+pub fraction_at_spec : {M : Type 1} → statement M
+fraction_at_spec =
     tie.close
     (tie.spec
     (λ c κs. search rules)

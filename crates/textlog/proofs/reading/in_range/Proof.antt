@@ -9,17 +9,17 @@ use Rattle.textlog.specs.Decode.{in_range}
 use Rattle.textlog.proofs.reading.in_range.Statement.{statement}
 use Rattle.textlog.proofs.reading.in_range.Tie as tie
 
-returns : tie.Need-returns
+returns : tie.Need-returns-then-whole-gt-WHOLE_MOST
 unfolding in_range
-returns c = rw (lt-leb (1000 * c.before.args.whole + c.before.args.fraction) time_most (omega arith))
+returns c = rw (lt-leb (1000 * c.args.whole + c.args.fraction) time_most (omega arith))
 
-returns-2 : tie.Need-returns-2
+returns-2 : tie.Need-returns-then-time-fraction
 unfolding in_range
-returns-2 c = rw (lt-leb (1000 * c.before.before.args.whole + c.before.before.args.fraction) time_most (omega arith))
+returns-2 c = rw (lt-leb (1000 * c.args.whole + c.args.fraction) time_most (omega arith))
 
-returns-3 : tie.Need-returns-3
+returns-3 : tie.Need-returns
 unfolding in_range
-returns-3 c = rw (le-leb (1000 * c.before.before.args.whole + c.before.before.args.fraction) time_most (omega arith))
+returns-3 c = rw (le-leb (1000 * c.args.whole + c.args.fraction) time_most (omega arith))
 
-pub in-range-spec : {M : Type 1} → statement M
-in-range-spec = tie.close (tie.spec returns (λ c. search rules) (λ c. search rules) returns-2 (λ c. search rules) returns-3)
+pub in_range_spec : {M : Type 1} → statement M
+in_range_spec = tie.close (tie.spec returns (λ c. search rules) (λ c. search rules) returns-2 (λ c. search rules) returns-3)

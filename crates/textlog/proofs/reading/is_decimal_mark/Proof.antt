@@ -5,13 +5,13 @@ use Rattle.textlog.specs.Decode.{is_decimal_mark}
 use Rattle.textlog.proofs.reading.is_decimal_mark.Statement.{statement}
 use Rattle.textlog.proofs.reading.is_decimal_mark.Tie as tie
 
-returns : tie.Need-returns
+returns : tie.Need-returns-then-octet-eq44
 unfolding is_decimal_mark
-returns c = simp (eq-eqb _ _ c.if1.true)
+returns c = simp (eq-eqb _ _ c.if-octet-eq44.true)
 
-returns-2 : tie.Need-returns-2
+returns-2 : tie.Need-returns
 unfolding is_decimal_mark
-returns-2 c = simp (ne_eqb _ _ c.if1.false)
+returns-2 c = simp (ne_eqb _ _ c.if-octet-eq44.false)
 
-pub is-decimal-mark-spec : {M : Type 1} → statement M
-is-decimal-mark-spec = tie.close (tie.spec returns returns-2)
+pub is_decimal_mark_spec : {M : Type 1} → statement M
+is_decimal_mark_spec = tie.close (tie.spec returns returns-2)

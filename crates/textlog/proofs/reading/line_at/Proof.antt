@@ -8,43 +8,43 @@ use Rattle.textlog.proofs.LinesAtPlaces.{within-log, line-none, line-over, line_
 use Rattle.textlog.proofs.reading.line_at.Statement.{statement}
 use Rattle.textlog.proofs.reading.line_at.Tie as tie
 
-returns : tie.Need-returns
+returns : tie.Need-returns-then-end-at
 returns c =
-    let a = c.before.before.before.args in
-    let r = c.before.number_at in
-    line-none a.log.now a.at r.result r.ensures.0 c.if1.true
+    let a = c.args in
+    let r = c.number_at-digits in
+    line-none a.log.now a.at r.result r.ensures.0 c.if-end-at.true
 
-returns-2 : tie.Need-returns-2
+returns-2 : tie.Need-returns-then-number-gt-NUMBER_MOST
 returns-2 c =
-    let a = c.before.before.before.before.args in
-    let r = c.before.before.number_at in
-    line-over a.log.now a.at r.result r.ensures.0 c.before.if1.false c.if2.true
+    let a = c.args in
+    let r = c.number_at-digits in
+    line-over a.log.now a.at r.result r.ensures.0 c.if-end-at.false c.if-number-gt-NUMBER_MOST.true
 
-returns-3 : tie.Need-returns-3
+returns-3 : tie.Need-returns-then-octet_at-ne59
 returns-3 c =
-    let a = c.before.before.before.before.before.before.args in
-    let r = c.before.before.before.before.number_at in
-    line_other a.log.now a.at r.result r.ensures.0 c.before.before.before.if1.false c.before.before.if2.false
-    (λ o. c.if3.true (c.before.octet-at.ensures ∙ o))
+    let a = c.args in
+    let r = c.number_at-digits in
+    line_other a.log.now a.at r.result r.ensures.0 c.if-end-at.false c.if-number-gt-NUMBER_MOST.false
+    (λ o. c.if-octet_at-ne59.true (c.octet_at.ensures ∙ o))
 
-add-time-at : tie.Need-overflow-add-time-at
+add-time-at : tie.Need-overflow_add-end
 add-time-at c =
-    let a = c.before.before.before.before.before.before.args in
-    let r = c.before.before.before.before.number_at in
+    let a = c.args in
+    let r = c.number_at-digits in
     let b =
-    within-log a.log.now a.at r.result r.ensures.0 semicolon (sym c.before.octet-at.ensures ∙ c.if3.false)
+    within-log a.log.now a.at r.result r.ensures.0 semicolon (sym c.octet_at.ensures ∙ c.if-octet_at-ne59.false)
     (omega arith) in
     omega arith
 
-returns-4 : tie.Need-returns-4
+returns-4 : tie.Need-returns
 returns-4 c =
-    let a = c.before.before.before.before.before.before.before.args in
-    let r = c.before.before.before.before.before.number_at in
-    line-time a.log.now a.at r.result r.ensures.0 c.before.before.before.before.if1.false
-    c.before.before.before.if2.false (sym c.before.before.octet-at.ensures ∙ c.before.if3.false) c.time-at.ensures
+    let a = c.args in
+    let r = c.number_at-digits in
+    line-time a.log.now a.at r.result r.ensures.0 c.if-end-at.false
+    c.if-number-gt-NUMBER_MOST.false (sym c.octet_at.ensures ∙ c.if-octet_at-ne59.false) c.time_at.ensures
 
-pub line-at-spec : {M : Type 1} → statement M
-line-at-spec =
+pub line_at_spec : {M : Type 1} → statement M
+line_at_spec =
     tie.close
     (tie.spec
     (λ c κs. search rules)

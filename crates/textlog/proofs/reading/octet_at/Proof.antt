@@ -5,8 +5,8 @@ use lib.ListN.{get_or-eq_default}
 use Rattle.textlog.proofs.reading.octet_at.Statement.{statement}
 use Rattle.textlog.proofs.reading.octet_at.Tie as tie
 
-returns-2 : tie.Need-returns-2
-returns-2 c = sym (get_or-eq_default c.before.args.log.now 0 c.if1.false)
+returns-2 : tie.Need-returns
+returns-2 c = sym (get_or-eq_default c.args.log.now 0 c.if-at-log.false)
 
-pub octet-at-spec : {M : Type 1} → statement M
-octet-at-spec = tie.close (tie.spec (λ c. search rules) (λ c. search rules) returns-2)
+pub octet_at_spec : {M : Type 1} → statement M
+octet_at_spec = tie.close (tie.spec (λ c. search rules) (λ c. search rules) returns-2)

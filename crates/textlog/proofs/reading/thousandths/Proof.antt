@@ -6,14 +6,14 @@ use borrow.Author.Rules.{rules}
 use Rattle.textlog.proofs.reading.thousandths.Statement.{statement}
 use Rattle.textlog.proofs.reading.thousandths.Tie as tie
 
-returns : tie.Need-returns
-returns c = rw c.if1.true
+returns : tie.Need-returns-then-count-eq1
+returns c = rw c.if-count-eq1.true
 
-returns-2 : tie.Need-returns-2
-returns-2 c = rw c.if2.true
+returns-2 : tie.Need-returns-then-count-eq2
+returns-2 c = rw c.if-count-eq2.true
 
-returns-3 : tie.Need-returns-3
-returns-3 c = let e : c.before.before.args.count ≡ 3 = omega arith in rw e (omega arith)
+returns-3 : tie.Need-returns
+returns-3 c = let e : c.args.count ≡ 3 = omega arith in rw e (omega arith)
 
-pub thousandths-spec : {M : Type 1} → statement M
-thousandths-spec = tie.close (tie.spec (λ c. search rules) returns (λ c. search rules) returns-2 returns-3)
+pub thousandths_spec : {M : Type 1} → statement M
+thousandths_spec = tie.close (tie.spec (λ c. search rules) returns (λ c. search rules) returns-2 returns-3)

@@ -9,25 +9,25 @@ use Rattle.textlog.proofs.writing.line_length.Statement.{statement}
 use Rattle.textlog.proofs.writing.line_length.Tie as tie
 
 -- both counts are at most 20
-few : (c : tie.After-count2) → (c.before.count.result ≤ 20) × (c.count2.result ≤ 20)
+few : (c : tie.After-count-2) → (c.count.result ≤ 20) × (c.count-2.result ≤ 20)
 few c =
-    let start = c.before.before in
+    let start = c in
     let p = at-most-20 start.args.number (omega (arith, start.ranges.number.fits)) in
     let q = at-most-20 (start.args.time / 1000) (omega (arith, start.ranges.time.fits)) in
-    (omega (arith, c.before.count.ensures), omega (arith, c.count2.ensures))
+    (omega (arith, c.count.ensures), omega (arith, c.count-2.ensures))
 
-add-result : tie.Need-overflow-add-result
+add-result : tie.Need-overflow_add-result
 add-result c = omega (arith, few c)
 
-add-result-2 : tie.Need-overflow-add-result-2
+add-result-2 : tie.Need-overflow_add-result-2
 add-result-2 c = omega (arith, few c)
 
 returns : tie.Need-returns
 returns c =
-    let a = c.before.before.args in (
-      omega (arith, line-long (record { number = a.number; time = a.time }), c.before.count.ensures, c.count2.ensures),
+    let a = c.args in (
+      omega (arith, line-long (record { number = a.number; time = a.time }), c.count.ensures, c.count-2.ensures),
       omega (arith, few c),
     )
 
-pub line-length-spec : {M : Type 1} → statement M
-line-length-spec = tie.close (tie.spec (λ c κs. search rules) (λ c κs. search rules) add-result add-result-2 returns)
+pub line_length_spec : {M : Type 1} → statement M
+line_length_spec = tie.close (tie.spec (λ c κs. search rules) (λ c κs. search rules) add-result add-result-2 returns)

@@ -13,48 +13,48 @@ use Rattle.textlog.proofs.writing.log_length.Statement.{statement}
 use Rattle.textlog.proofs.writing.log_length.Tie as tie
 
 -- total₀ and i₀ are total and i where the loop begins
-abbrev invariant-loop : tie.invariant-loop
-invariant-loop numbers times total₀ i₀ total i =
+abbrev invariant-loop-i : tie.invariant-loop-i
+invariant-loop-i numbers times total₀ i₀ total i =
     (i ≤ length numbers) × (total ≡ length (log_of (take i (arrivals_from numbers times)))) × (total ≤ 46 * i)
 
-abbrev decreases-loop : tie.decreases-loop
-decreases-loop numbers times total₀ i₀ total i = length numbers - i
+abbrev decreases-loop-i : tie.decreases-loop-i
+decreases-loop-i numbers times total₀ i₀ total i = length numbers - i
 
-loop-holds : tie.Need-loop-init invariant-loop decreases-loop
+loop-holds : tie.Need-loop-i-init invariant-loop-i decreases-loop-i
 unfolding item_octets
 loop-holds c = (search rules, refl, search rules)
 
-add_total : tie.Need-overflow-add-total invariant-loop decreases-loop
+add_total : tie.Need-overflow_add-total invariant-loop-i decreases-loop-i
 add_total c =
     omega (
       arith,
-      c.before.before.before.before.loop.invariant.2,
-      c.before.before.before.before.before.before.before.requires.1,
-      c.line-length.ensures.1,
+      c.loop-i.invariant.2,
+      c.requires.1,
+      c.line_length-total.ensures.1,
     )
 
-loop-again : tie.Need-loop-preserved invariant-loop decreases-loop
+loop-again : tie.Need-loop-i-preserved invariant-loop-i decreases-loop-i
 loop-again c =
-    let a = c.before.before.before.before.before.before.before.args in
-    let l = c.before.before.before.before.loop in
+    let a = c.args in
+    let l = c.loop-i in
     let n =
-    long-next a.numbers.now a.times.now c.before.before.before.before.before.before.before.requires.0 l.i
-    c.before.before.before.loop-test.true in
-    (search rules, omega (arith, l.invariant.1, c.line-length.ensures.0), omega (arith, l.invariant.2, c.line-length.ensures.1))
+    long-next a.numbers.now a.times.now c.requires.0 l.i
+    c.loop-i-test.true in
+    (search rules, omega (arith, l.invariant.1, c.line_length-total.ensures.0), omega (arith, l.invariant.2, c.line_length-total.ensures.1))
 
-returns : tie.Need-returns invariant-loop decreases-loop
+returns : tie.Need-returns invariant-loop-i decreases-loop-i
 returns c =
-    let a = c.before.before.before.before.args in
-    let l = c.before.loop in
-    let e = log-all a.numbers.now a.times.now c.before.before.before.before.requires.0 l.i c.loop-test.false in
-    (l.invariant.1 ∙ ap length e, omega (arith, l.invariant.2, l.invariant.0, c.before.before.before.before.requires.1))
+    let a = c.args in
+    let l = c.loop-i in
+    let e = log-all a.numbers.now a.times.now c.requires.0 l.i c.loop-i-test.false in
+    (l.invariant.1 ∙ ap length e, omega (arith, l.invariant.2, l.invariant.0, c.requires.1))
 
-pub log-length-spec : {M : Type 1} → statement M
-log-length-spec =
+pub log_length_spec : {M : Type 1} → statement M
+log_length_spec =
     tie.close
     (tie.spec
-    invariant-loop
-    decreases-loop
+    invariant-loop-i
+    decreases-loop-i
     loop-holds
     (λ c. search rules) (λ c. search rules) (λ c. search rules) (λ c. search rules) (λ c κs. search rules)
     add_total

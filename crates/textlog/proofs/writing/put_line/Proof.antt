@@ -15,57 +15,57 @@ use Rattle.textlog.proofs.writing.put_line.Statement.{statement}
 use Rattle.textlog.proofs.writing.put_line.Tie as tie
 
 -- places: where the milliseconds, the semicolon and the number are written
-abbrev whole-at : tie.After-decimals → tie.After-put-decimal2
+abbrev whole-at : tie.After-decimals-1 → tie.After-put_decimal-2
 whole-at c = c.before.before.before.before.before.before.before
 
-abbrev mark-at : tie.After-put-decimal2 → tie.After-put-octets
+abbrev mark-at : tie.After-put_decimal-2 → tie.After-put_octets
 mark-at c = c.before.before.before.before
 
-abbrev number_at : tie.After-semicolon → tie.After-put-decimal
+abbrev number_at : tie.After-semicolon-1 → tie.After-put_decimal
 number_at c = c.before.before.before.before
 
 -- there is room for the digits of the number and six octets and the digits of the milliseconds after them
-room : (c : tie.After-put-decimal)
-    → c.before.before.before.args.at + c.put-decimal.result + 6 + length (decimal_of (c.before.before.before.args.time / 1000))
-    ≤ length c.before.before.before.args.out.now
+room : (c : tie.After-put_decimal)
+    → c.args.at + c.put_decimal.result + 6 + length (decimal_of (c.args.time / 1000))
+    ≤ length c.args.out.now
 room c =
-    let a = c.before.before.before.args in
-    omega (arith, line-long (record { number = a.number; time = a.time }), c.before.before.before.requires, c.put-decimal.ensures.0)
+    let a = c.args in
+    omega (arith, line-long (record { number = a.number; time = a.time }), c.requires, c.put_decimal.ensures.0)
 
-add-first : tie.Need-overflow-add-first
+add-first : tie.Need-overflow_add-first
 add-first c = omega (arith, room c.before.before)
 
-add-second : tie.Need-overflow-add-second
+add-second : tie.Need-overflow_add-second
 add-second c = omega (arith, room (number_at c.before.before.before))
 
-add-third : tie.Need-overflow-add-third
+add-third : tie.Need-overflow_add-third
 add-third c =
-    omega (arith, room (number_at (mark-at c.before.before).before), c.before.before.put-decimal2.ensures.0)
+    omega (arith, room (number_at (mark-at c.before.before).before), c.put_decimal-2.ensures.0)
 
-add-result : tie.Need-overflow-add-result
+add-result : tie.Need-overflow_add-result
 add-result c =
     let w = whole-at c.before.before.before in
-    omega (arith, room (number_at (mark-at w).before), w.put-decimal2.ensures.0)
+    omega (arith, room (number_at (mark-at w).before), w.put_decimal-2.ensures.0)
 
 returns : tie.Need-returns
 unfolding arrival_line
 returns c =
-    let start = (number_at (mark-at (whole-at c.before.before.before)).before).before.before.before in
+    let start = (number_at (mark-at (whole-at c.before.before.before)).before) in
     let a = start.args in
-    let p = start.pre in
+    let p = start.requires in
     let l = line-long (record { number = a.number; time = a.time }) in
-    let number = (number_at (mark-at (whole-at c.before.before.before)).before).put-decimal in
-    let mark = (mark-at (whole-at c.before.before.before)).put-octets in
-    let whole = (whole-at c.before.before.before).put-decimal2 in
-    let rest = c.before.before.put-octets2 in
+    let number = (number_at (mark-at (whole-at c.before.before.before)).before).put_decimal in
+    let mark = (mark-at (whole-at c.before.before.before)).put_octets in
+    let whole = (whole-at c.before.before.before).put_decimal-2 in
+    let rest = c.put_octets-2 in
     let first = a.at + number.result in
     let third = a.at + number.result + 1 + whole.result in
     let z : List ℕ = comma ∷ (three_digits (a.time % 1000) ++ (line_feed ∷ [])) in
-    let d : rest.new.0 ≡ put third z whole.last.0 =
+    let d : rest.new.out ≡ put third z whole.new.out =
     rw (
-      ← c.before.before.before.before.before.before.before.digit-of.ensures,
-      ← c.before.before.before.before.before.before.digit-of2.ensures,
-      ← c.before.before.before.before.before.digit-of3.ensures,
+      ← c.digit_of.ensures,
+      ← c.digit_of-2.ensures,
+      ← c.digit_of-3.ensures,
     ) rest.ensures in (
       omega (arith, number.ensures.0, whole.ensures.0),
       put-parts a.at first third (decimal_of a.number) (decimal_of (a.time / 1000)) z a.out.now p
@@ -74,8 +74,8 @@ returns c =
           number.ensures.1 mark.ensures whole.ensures.1 d,
     )
 
-pub put-line-spec : {M : Type 1} → statement M
-put-line-spec =
+pub put_line_spec : {M : Type 1} → statement M
+put_line_spec =
     tie.close
     (tie.spec
     (λ c κs. search rules)

@@ -5,23 +5,23 @@ use borrow.Author.Rules.{rules}
 use Rattle.metrics.proofs.engine.byte_offset.late_figures.Statement.{statement}
 use Rattle.metrics.proofs.engine.byte_offset.late_figures.Tie as tie
 
-returns : tie.Need-returns
-returns c = (omega arith, λ fs n t. (t, rw c.enum_told.given.1 tt))
+returns : tie.Need-returns-in-Duplicate
+returns c = (omega arith, λ fs n t. (t, rw c.in-Duplicate.is tt))
 
-returns-2 : tie.Need-returns-2
-returns-2 c = (omega arith, λ fs n t. (t, rw c.enum-told2.given.1 tt))
+returns-2 : tie.Need-returns-in-InOrder
+returns-2 c = (omega arith, λ fs n t. (t, rw c.in-InOrder.is tt))
 
-returns-3 : tie.Need-returns-3
+returns-3 : tie.Need-returns-in-Reordered
 returns-3 c =
-    let l = c.before.before.before.before.before.largest-by-links.ensures in (
+    let l = c.largest_by_links-largest.ensures in (
       l.0,
       λ fs n t.
-          let made = c.before.before.before.offset-by-tree.ensures fs n t in
-          (made.0, rw c.before.before.before.before.before.before.enum-told3.given.1 (l.1 fs n, made.1)),
+          let made = c.offset_by_tree-by_tree.ensures fs n t in
+          (made.0, rw c.in-Reordered.is (l.1 fs n, made.1)),
     )
 
-pub late-figures-spec : {M : Type 1} → statement M
-late-figures-spec =
+pub late_figures_spec : {M : Type 1} → statement M
+late_figures_spec =
     tie.close
     (tie.spec
     (λ c. search rules) (λ c. search rules) (λ c. search rules) (λ c κs. search rules) (λ c κs. search rules)

@@ -14,42 +14,42 @@ use Rattle.metrics.proofs.engine.byte_offset.offset_by_tree.Statement.{statement
 use Rattle.metrics.proofs.engine.byte_offset.offset_by_tree.Tie as tie
 
 -- every payload size fits two octets
-sizes : (c : tie.After-shared-slice-known) (s : ℕ) → size_of (decode c.before.args.file.now) s ≤ 65535
-sizes c = size-most c.before.args.file.now (below-fits w8 c.before.args.file.now c.shared-slice-known.given)
+sizes : (c : tie.After-shared_slice_known-1) (s : ℕ) → size_of (decode c.args.file.now) s ≤ 65535
+sizes c = size-most c.args.file.now (below-fits w8 c.args.file.now c.shared_slice_known-1.given)
 
 -- ---- places
 
-abbrev filled_at : tie.After-struct-known → tie.After-fill-tree
-filled_at c = c.before.before.before.before.before
+abbrev filled_at : tie.After-struct_known-1 → tie.After-fill_tree-filled
+filled_at c = c.before.before.before.before
 
-abbrev known_at : tie.After-fill-tree → tie.After-shared-slice-known
+abbrev known_at : tie.After-fill_tree-filled → tie.After-shared_slice_known-1
 known_at t = t.before.before.before
 
-sub-t15 : tie.Need-overflow-sub-t15
+sub-t15 : tie.Need-overflow_sub-result
 sub-t15 c =
     let t = filled_at c in
-    let s = (known_at t).before in
-    let k = s.pre.0 in
-    let f = t.fill-tree.ensures k.fs k.numbered k.totalled in
+    let s = (known_at t) in
+    let k = s.requires.0 in
+    let f = t.fill_tree-filled.ensures k.fs k.numbered k.totalled in
     omega (
       arith,
-      c.before.sum_to.ensures.0,
+      c.sum_to.ensures.0,
       total-sum _ (sizes (known_at t)) k.fs (omega (arith, k.numbered.all, k.few)) _ _
-          s.args.s (f.1 ∙ k.numbered.all) s.pre.2 f.0,
+          s.args.s (f.1 ∙ k.numbered.all) s.requires.2 f.0,
     )
 
 returns : tie.Need-returns
 returns c =
     let u = filled_at c in
-    let s = (known_at u).before in
+    let s = (known_at u) in
     λ fs n t.
-    let f = u.fill-tree.ensures fs n t in (
+    let f = u.fill_tree-filled.ensures fs n t in (
       f.0,
       λ new.
-          ap (λ (m : ℕ). u.fill-tree.result.total - m) c.before.sum_to.ensures.0
-          ∙ offset-summed _ (sizes (known_at u)) fs (omega (arith, n.all, s.pre.0.few)) _ _ s.args.s (f.1 ∙ n.all) s.pre.1
-          s.pre.2 f.0 new,
+          ap (λ (m : ℕ). u.fill_tree-filled.result.total - m) c.sum_to.ensures.0
+          ∙ offset-summed _ (sizes (known_at u)) fs (omega (arith, n.all, s.requires.0.few)) _ _ s.args.s (f.1 ∙ n.all) s.requires.1
+          s.requires.2 f.0 new,
     )
 
-pub offset-by-tree-spec : {M : Type 1} → statement M
-offset-by-tree-spec = tie.close (tie.spec (λ c κs. search rules) (λ c κs. search rules) sub-t15 (λ c. search rules) returns)
+pub offset_by_tree_spec : {M : Type 1} → statement M
+offset_by_tree_spec = tie.close (tie.spec (λ c κs. search rules) (λ c κs. search rules) sub-t15 (λ c. search rules) returns)

@@ -5,18 +5,18 @@ use borrow.Author.Rules.{rules}
 use Rattle.metrics.proofs.engine.input.arrival_at.Statement.{statement}
 use Rattle.metrics.proofs.engine.input.arrival_at.Tie as tie
 
-part-twelve-end : tie.Need-slice-bounds-twelve-end
+part-twelve-end : tie.Need-slice_bounds-twelve-end
 part-twelve-end c =
-    let p = c.before.before.requires in
-    arrival-inside _ _ p.file _ p.inside (c.arrivals-at.ensures.1 _)
+    let p = c.requires in
+    arrival-inside _ _ p.file _ p.inside (c.arrivals_at.ensures.1 _)
 
 returns : tie.Need-returns
 returns c =
-    let p = c.before.before.before.before.requires in
-    arrival-read _ _ p.file _ p.inside (c.before.before.arrivals-at.ensures.1 _) c.arrival-of.ensures
+    let p = c.requires in
+    arrival-read _ _ p.file _ p.inside (c.arrivals_at.ensures.1 _) c.arrival_of.ensures
 
-pub arrival-at-spec : {M : Type 1} → statement M
-arrival-at-spec =
+pub arrival_at_spec : {M : Type 1} → statement M
+arrival_at_spec =
     tie.close
     (tie.spec
     (λ c κs. search rules) (λ c. search rules) (λ c. search rules) (λ c. search rules) (λ c. search rules)

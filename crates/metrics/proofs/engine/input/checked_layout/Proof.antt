@@ -6,7 +6,7 @@ use Rattle.metrics.proofs.engine.input.checked_layout.Statement.{statement}
 use Rattle.metrics.proofs.engine.input.checked_layout.Tie as tie
 
 returns : tie.Need-returns
-returns c = rw c.check.ensures.0 (laid _ (λ i. (c.before.shared-slice-known.given i).fits))
+returns c = rw c.check.ensures.0 (laid _ (λ i. (c.shared_slice_known-1.given i).fits))
 
-pub checked-layout-spec : {M : Type 1} → statement M
-checked-layout-spec = tie.close (tie.spec (λ c κs. search rules) returns)
+pub checked_layout_spec : {M : Type 1} → statement M
+checked_layout_spec = tie.close (tie.spec (λ c κs. search rules) returns)

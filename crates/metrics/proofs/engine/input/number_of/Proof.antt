@@ -7,7 +7,7 @@ use Rattle.metrics.proofs.engine.input.number_of.Statement.{statement}
 use Rattle.metrics.proofs.engine.input.number_of.Tie as tie
 
 returns : tie.Need-returns
-returns c = let e = c.arrival-at.ensures in (ap (λ (a : Arrival). a.number) e.0, e.1, e.2)
+returns c = let e = c.arrival_at.ensures in (ap (λ (a : Arrival). a.number) e.0, e.1, e.2)
 
-pub number-of-spec : {M : Type 1} → statement M
-number-of-spec = tie.close (tie.spec (λ c κs. search rules) returns)
+pub number_of_spec : {M : Type 1} → statement M
+number_of_spec = tie.close (tie.spec (λ c κs. search rules) returns)

@@ -7,7 +7,7 @@ use Rattle.metrics.proofs.engine.input.size_of.Statement.{statement}
 use Rattle.metrics.proofs.engine.input.size_of.Tie as tie
 
 returns : tie.Need-returns
-returns c = let p = c.before.before.requires in (size-stands _ _ p.0 _ p.1 p.2 c.payload-size.ensures.1, omega arith)
+returns c = let p = c.requires in (size-stands _ _ p.0 _ p.1 p.2 c.payload_size.ensures.1, omega arith)
 
-pub size-of-spec : {M : Type 1} → statement M
-size-of-spec = tie.close (tie.spec (λ c. search rules) (λ c κs. search rules) (λ c. search rules) returns)
+pub size_of_spec : {M : Type 1} → statement M
+size_of_spec = tie.close (tie.spec (λ c. search rules) (λ c κs. search rules) (λ c. search rules) returns)

@@ -6,7 +6,7 @@ use Rattle.metrics.proofs.engine.input.time_of.Statement.{statement}
 use Rattle.metrics.proofs.engine.input.time_of.Tie as tie
 
 returns : tie.Need-returns
-returns c = ap (λ (a : Arrival). a.time) c.arrival-at.ensures.0
+returns c = ap (λ (a : Arrival). a.time) c.arrival_at.ensures.0
 
-pub time-of-spec : {M : Type 1} → statement M
-time-of-spec = tie.close (tie.spec (λ c κs. search rules) returns)
+pub time_of_spec : {M : Type 1} → statement M
+time_of_spec = tie.close (tie.spec (λ c κs. search rules) returns)

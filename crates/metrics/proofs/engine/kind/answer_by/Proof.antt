@@ -8,24 +8,24 @@ use borrow.Author.Rules.{rules}
 use Rattle.metrics.proofs.engine.kind.answer_by.Statement.{statement}
 use Rattle.metrics.proofs.engine.kind.answer_by.Tie as tie
 
-add-t16 : tie.Need-overflow-add-t16
-add-t16 c = let p = c.before.before.before.before.requires in omega (arith, numbered-le _ _ _ p.0 _ _ p.2)
+add-t16 : tie.Need-overflow_add-result
+add-t16 c = let p = c.requires in omega (arith, numbered-le _ _ _ p.0 _ _ p.2)
 
-reordered-figures-requires : tie.Need-reordered-figures-requires
+reordered-figures-requires : tie.Need-reordered_figures-requires
 reordered-figures-requires c κs =
-    let p = c.before.before.before.before.requires in
-    let is = c.before.class3.given.1 in
+    let p = c.requires in
+    let is = c.in-Reordered.is in
     let l = rw is at p.5 in
     (p.0, rw is at p.4, p.2, p.3, ap (λ (a : Arrival). a.time) p.1, l.0, l.1)
 
-returns : tie.Need-returns
-returns c = sym (rw c.before.class.given.1 at c.before.before.before.before.requires.4.is)
+returns : tie.Need-returns-in-Duplicate
+returns c = sym (rw c.in-Duplicate.is at c.requires.4.is)
 
-returns-2 : tie.Need-returns-2
-returns-2 c = sym (rw c.before.class2.given.1 at c.before.before.before.before.requires.4.is)
+returns-2 : tie.Need-returns-in-InOrder
+returns-2 c = sym (rw c.in-InOrder.is at c.requires.4.is)
 
-pub answer-by-spec : {M : Type 1} → statement M
-answer-by-spec =
+pub answer_by_spec : {M : Type 1} → statement M
+answer_by_spec =
     tie.close
     (tie.spec
     (λ c. search rules) (λ c. search rules)

@@ -7,26 +7,26 @@ use borrow.Author.Rules.{rules}
 use Rattle.metrics.proofs.engine.kind.class_of.Statement.{statement}
 use Rattle.metrics.proofs.engine.kind.class_of.Tie as tie
 
-returns : tie.Need-returns
+returns : tie.Need-returns-then-first-ne0
 unfolding class_by
 returns c =
-    let e = c.before.wide.ensures in
-    simp (e, ne_eqb _ 0 (λ q. c.if1.true (e ∙ q)))
+    let e = c.wide-first.ensures in
+    simp (e, ne_eqb _ 0 (λ q. c.if-first-ne0.true (e ∙ q)))
 
-returns-2 : tie.Need-returns-2
+returns-2 : tie.Need-returns-then-next-number
 unfolding class_by
 returns-2 c =
-    let e = c.before.before.wide.ensures in
-    simp (eq-eqb _ 0 (sym e ∙ c.before.if1.false), le-leb _ _ c.if2.true)
+    let e = c.wide-first.ensures in
+    simp (eq-eqb _ 0 (sym e ∙ c.if-first-ne0.false), le-leb _ _ c.if-next-number.true)
 
-returns-3 : tie.Need-returns-3
+returns-3 : tie.Need-returns
 unfolding class_by
 returns-3 c =
-    let e = c.before.before.before.before.wide.ensures in
-    simp (eq-eqb _ 0 (sym e ∙ c.before.before.before.if1.false), lt-leb _ _ c.before.before.if2.false, c.wide2.ensures)
+    let e = c.wide-first.ensures in
+    simp (eq-eqb _ 0 (sym e ∙ c.if-first-ne0.false), lt-leb _ _ c.if-next-number.false, c.wide.ensures)
 
-pub class-of-spec : {M : Type 1} → statement M
-class-of-spec =
+pub class_of_spec : {M : Type 1} → statement M
+class_of_spec =
     tie.close
     (tie.spec
     (λ c. search rules) (λ c. search rules) (λ c κs. search rules)

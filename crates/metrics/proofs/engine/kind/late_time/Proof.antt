@@ -15,39 +15,39 @@ place c =
     let p = c.requires in
     omega (arith, late-place _ _ _ _ _ p.0 p.1 _ _ p.2 p.3, p.0.inside, p.0.file.few)
 
-sub-place : tie.Need-overflow-sub-place
+sub-place : tie.Need-overflow_sub-place
 sub-place c = omega (arith, place c.before)
 
-element-copy-out-wide : tie.Need-element-copy-out-wide
-element-copy-out-wide c = omega (arith, place c.before)
+element-copy-out-wide : tie.Need-bounds-numbers-place
+element-copy-out-wide c = omega (arith, place c.before.before)
 
-element-copy-out-wide-2 : tie.Need-element-copy-out-wide-2
+element-copy-out-wide-2 : tie.Need-bounds-records-packet
 element-copy-out-wide-2 c =
-    let p = c.before.before.before.requires in
-    omega (arith, late-packet _ _ _ _ _ p.0 p.1 _ _ p.2 p.3, c.wide.ensures)
+    let p = c.requires in
+    omega (arith, late-packet _ _ _ _ _ p.0 p.1 _ _ p.2 p.3, c.wide-packet.ensures)
 
-sub-time-of : tie.Need-overflow-sub-time-of
+sub-time-of : tie.Need-overflow_sub-first
 sub-time-of c =
-    let p = c.before.before.before.before.before.requires in
-    let r = rw c.before.before.wide.ensures at c.wide2.ensures in
+    let p = c.requires in
+    let r = rw c.wide-packet.ensures at c.wide-first.ensures in
     omega (arith, r, late-record _ _ _ _ _ p.0 p.1 _ _ p.2 p.3)
 
-time-of-requires : tie.Need-time-of-requires
+time-of-requires : tie.Need-time_of-past-requires
 time-of-requires c κs =
-    let p = c.before.before.before.before.before.requires in
-    let r = rw c.before.before.wide.ensures at c.wide2.ensures in
+    let p = c.requires in
+    let r = rw c.wide-packet.ensures at c.wide-first.ensures in
     record { file = p.0.file; inside = omega (arith, r, p.0.inside, late-record _ _ _ _ _ p.0 p.1 _ _ p.2 p.3) }
 
 returns : tie.Need-returns
 returns c =
-    let p = c.before.before.before.before.before.before.before.requires in
+    let p = c.requires in
     late-time-of _ _ _ _ _ p.0 p.1 _ _ p.2 p.3 _ _ _
-    (rw (c.before.before.wide2.ensures, c.before.before.before.before.wide.ensures) at c.before.time-of.ensures)
+    (rw (c.wide-first.ensures, c.wide-packet.ensures) at c.time_of-past.ensures)
     p.4
     c.elapsed.ensures
 
-pub late-time-spec : {M : Type 1} → statement M
-late-time-spec =
+pub late_time_spec : {M : Type 1} → statement M
+late_time_spec =
     tie.close
     (tie.spec
     sub-place

@@ -3,7 +3,6 @@
 use Prim.Native.Nat.{◌≤◌}
 use native.Mathlib.Omega.{arith}
 use Rattle.metrics.proofs.AnswersByClass.{late-place, late-whole}
-use borrow.Author.Rules.{rules}
 use Rattle.rfc4737.specs.Judge.{sent_most}
 use Rattle.metrics.proofs.engine.kind.reordered_figures.Statement.{statement}
 use Rattle.metrics.proofs.engine.kind.reordered_figures.Tie as tie
@@ -14,15 +13,15 @@ place c =
     let p = c.requires in
     omega (arith, late-place _ _ _ _ _ p.0 p.1 _ _ p.2 p.3, p.0.inside, p.0.file.few)
 
-late-time-requires : tie.Need-late-time-requires
-late-time-requires c κs = let p = c.before.requires in (p.0, p.1, p.2, p.3, p.4)
+late-time-requires : tie.Need-late_time-late-requires
+late-time-requires c κs = let p = c.requires in (p.0, p.1, p.2, p.3, p.4)
 
 returns : tie.Need-returns
 returns c =
-    let p = c.before.before.requires in
-    late-whole _ _ _ _ _ p.0 p.1 _ _ p.2 p.3 _ _ _ c.late-time.ensures p.5 p.6
+    let p = c.requires in
+    late-whole _ _ _ _ _ p.0 p.1 _ _ p.2 p.3 _ _ _ c.late_time-late.ensures p.5 p.6
 
-pub reordered-figures-spec : {M : Type 1} → statement M
-reordered-figures-spec =
+pub reordered_figures_spec : {M : Type 1} → statement M
+reordered_figures_spec =
     tie.close (tie.spec late-time-requires (λ c. omega (arith, place c.before.before)) (λ c. omega (arith, place c.before.before))
     (λ c. omega (arith, place c.before.before)) returns)

@@ -10,36 +10,36 @@ use Rattle.metrics.proofs.engine.largest_n.largest.Statement.{statement}
 use Rattle.metrics.proofs.engine.largest_n.largest.Tie as tie
 
 -- p₀ is p where the loop begins
-abbrev invariant-loop : tie.invariant-loop
-invariant-loop numbers count s p₀ p = Above numbers s p count
+abbrev invariant-loop-p : tie.invariant-loop-p
+invariant-loop-p numbers count s p₀ p = Above numbers s p count
 
-abbrev decreases-loop : tie.decreases-loop
-decreases-loop numbers count s p₀ p = p
+abbrev decreases-loop-p : tie.decreases-loop-p
+decreases-loop-p numbers count s p₀ p = p
 
-loop-holds : tie.Need-loop-init invariant-loop decreases-loop
+loop-holds : tie.Need-loop-p-init invariant-loop-p decreases-loop-p
 loop-holds c = above-none _ _ refl
 
-sub-result : tie.Need-overflow-sub-result invariant-loop decreases-loop
-sub-result c = omega (arith, c.before.before.before.before.loop.invariant.order)
+sub-result : tie.Need-overflow_sub-result invariant-loop-p decreases-loop-p
+sub-result c = omega (arith, c.loop-p.invariant.order)
 
-returns : tie.Need-returns invariant-loop decreases-loop
-returns c = largest-back _ _ _ _ c.before.before.before.before.loop.invariant (λ low. rw c.before.wide.ensures at c.if1.true)
+returns : tie.Need-returns-then-wide-s invariant-loop-p decreases-loop-p
+returns c = largest-back _ _ _ _ c.loop-p.invariant (λ low. rw c.wide.ensures at c.if-wide-s.true)
 
-loop-again : tie.Need-loop-preserved invariant-loop decreases-loop
-loop-again c = above-back _ _ (omega arith) (rw c.before.wide.ensures at c.if1.false) c.before.before.before.before.loop.invariant
+loop-again : tie.Need-loop-p-preserved invariant-loop-p decreases-loop-p
+loop-again c = above-back _ _ (omega arith) (rw c.wide.ensures at c.if-wide-s.false) c.loop-p.invariant
 
-sub-result-2 : tie.Need-overflow-sub-result-2 invariant-loop decreases-loop
-sub-result-2 c = omega (arith, c.before.loop.invariant.order)
+sub-result-2 : tie.Need-overflow_sub-result-2 invariant-loop-p decreases-loop-p
+sub-result-2 c = omega (arith, c.loop-p.invariant.order)
 
-returns-2 : tie.Need-returns-2 invariant-loop decreases-loop
-returns-2 c = largest-back _ _ _ _ c.before.loop.invariant (λ low. absurd (omega arith))
+returns-2 : tie.Need-returns invariant-loop-p decreases-loop-p
+returns-2 c = largest-back _ _ _ _ c.loop-p.invariant (λ low. absurd (omega arith))
 
-pub largest-spec : {M : Type 1} → statement M
-largest-spec =
+pub largest_spec : {M : Type 1} → statement M
+largest_spec =
     tie.close
     (tie.spec
-    invariant-loop
-    decreases-loop
+    invariant-loop-p
+    decreases-loop-p
     loop-holds
     (λ c. omega arith)
     (λ c. omega arith)

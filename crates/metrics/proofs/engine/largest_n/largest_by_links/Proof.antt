@@ -15,82 +15,82 @@ use Rattle.metrics.proofs.engine.largest_n.largest_by_links.Statement.{statement
 use Rattle.metrics.proofs.engine.largest_n.largest_by_links.Tie as tie
 
 -- p₀ is p where the loop begins
-abbrev invariant-loop : tie.invariant-loop
-invariant-loop numbers links more count s p₀ p = Above numbers s p count
+abbrev invariant-loop-p : tie.invariant-loop-p
+invariant-loop-p numbers links more count s p₀ p = Above numbers s p count
 
-abbrev decreases-loop : tie.decreases-loop
-decreases-loop numbers links more count s p₀ p = p
+abbrev decreases-loop-p : tie.decreases-loop-p
+decreases-loop-p numbers links more count s p₀ p = p
 
 -- the packet of a place is one of the packets
-packet : (c : tie.Else1 invariant-loop decreases-loop) → c.before.wide.result ≤ sent_most
+packet : (c : tie.Else-number-s invariant-loop-p decreases-loop-p) → c.wide-number.result ≤ sent_most
 packet c =
-    rw c.before.wide.ensures (c.before.before.before.before.before.requires.1.packet
-    (c.before.before.before.before.loop.p - 1) (omega (
+    rw c.wide-number.ensures (c.requires.1.packet
+    (c.loop-p.p - 1) (omega (
       arith,
-      c.before.before.before.loop-test.true,
-      c.before.before.before.before.loop.invariant.order,
+      c.loop-p-test.true,
+      c.loop-p.invariant.order,
     )))
 
 -- its link leads to a place before it
-link : (c : tie.Else1 invariant-loop decreases-loop) → (1 ≤ c.before.before.before.before.before.args.more
-    + get_or c.before.before.before.before.before.args.links.now c.before.wide.result 0)
-    × (c.before.before.before.before.before.args.more
-    + get_or c.before.before.before.before.before.args.links.now c.before.wide.result 0
-    ≤ c.before.before.before.before.loop.p)
+link : (c : tie.Else-number-s invariant-loop-p decreases-loop-p) → (1 ≤ c.args.more
+    + get_or c.args.links.now c.wide-number.result 0)
+    × (c.args.more
+    + get_or c.args.links.now c.wide-number.result 0
+    ≤ c.loop-p.p)
 link c =
     let e =
-    c.before.before.before.before.before.requires.1.inside (c.before.before.before.before.loop.p - 1)
-    (omega (arith, c.before.before.before.loop-test.true, c.before.before.before.before.loop.invariant.order)) in
-    let k = rw (← c.before.wide.ensures) at e in
-    (k.0, omega (arith, k.1, c.before.before.before.loop-test.true))
+    c.requires.1.inside (c.loop-p.p - 1)
+    (omega (arith, c.loop-p-test.true, c.loop-p.invariant.order)) in
+    let k = rw (← c.wide-number.ensures) at e in
+    (k.0, omega (arith, k.1, c.loop-p-test.true))
 
-loop-holds : tie.Need-loop-init invariant-loop decreases-loop
+loop-holds : tie.Need-loop-p-init invariant-loop-p decreases-loop-p
 loop-holds c = above-none _ _ refl
 
-sub-result : tie.Need-overflow-sub-result invariant-loop decreases-loop
-sub-result c = omega (arith, c.before.before.before.before.loop.invariant.order)
+sub-result : tie.Need-overflow_sub-result invariant-loop-p decreases-loop-p
+sub-result c = omega (arith, c.loop-p.invariant.order)
 
-returns : tie.Need-returns invariant-loop decreases-loop
+returns : tie.Need-returns-then-number-s invariant-loop-p decreases-loop-p
 returns c =
-    let most = c.before.before.before.before.before.requires.0 in (
+    let most = c.requires.0 in (
       omega arith,
-      largest-back _ _ _ _ c.before.before.before.before.loop.invariant
-          (λ low. rw c.before.wide.ensures at c.if1.true),
+      largest-back _ _ _ _ c.loop-p.invariant
+          (λ low. rw c.wide-number.ensures at c.if-number-s.true),
     )
 
-sub-p : tie.Need-overflow-sub-p invariant-loop decreases-loop
+sub-p : tie.Need-overflow_sub-p invariant-loop-p decreases-loop-p
 sub-p c = omega (arith, link c)
 
-mul-wide-2 : tie.Need-overflow-mul-wide-2 invariant-loop decreases-loop
+mul-wide-2 : tie.Need-offset_bounds-links-packet invariant-loop-p decreases-loop-p
 mul-wide-2 c = omega (arith, packet c)
 
-element-copy-out-wide-2 : tie.Need-element-copy-out-wide-2 invariant-loop decreases-loop
-element-copy-out-wide-2 c = omega (arith, packet c)
+element-copy-out-wide-2 : tie.Need-bounds-links-packet invariant-loop-p decreases-loop-p
+element-copy-out-wide-2 c = omega (arith, packet c.before)
 
-sub-p-2 : tie.Need-overflow-sub-p-2 invariant-loop decreases-loop
-sub-p-2 c = omega (arith, link c.before.before, c.wide2.ensures)
+sub-p-2 : tie.Need-overflow_sub-p-in-loop-p invariant-loop-p decreases-loop-p
+sub-p-2 c = omega (arith, link c.before.before.before, c.wide.ensures)
 
-loop-less : tie.Need-loop-smaller invariant-loop decreases-loop
-loop-less c = omega (arith, link c.before.before, c.wide2.ensures, c.before.before.before.before.before.loop-test.true)
+loop-less : tie.Need-loop-p-smaller invariant-loop-p decreases-loop-p
+loop-less c = omega (arith, link c.before.before.before, c.wide.ensures, c.loop-p-test.true)
 
-loop-again : tie.Need-loop-preserved invariant-loop decreases-loop
+loop-again : tie.Need-loop-p-preserved invariant-loop-p decreases-loop-p
 loop-again c =
-    above-link _ _ _ _ _ _ _ _ c.before.before.before.before.before.before.before.requires.1 (omega arith)
-    c.before.before.if1.false c.before.before.before.wide.ensures c.wide2.ensures
-    c.before.before.before.before.before.before.loop.invariant
+    above-link _ _ _ _ _ _ _ _ c.requires.1 (omega arith)
+    c.if-number-s.false c.wide-number.ensures c.wide.ensures
+    c.loop-p.invariant
 
-sub-result-2 : tie.Need-overflow-sub-result-2 invariant-loop decreases-loop
-sub-result-2 c = omega (arith, c.before.loop.invariant.order)
+sub-result-2 : tie.Need-overflow_sub-result-2 invariant-loop-p decreases-loop-p
+sub-result-2 c = omega (arith, c.loop-p.invariant.order)
 
-returns-2 : tie.Need-returns-2 invariant-loop decreases-loop
-returns-2 c = (omega arith, largest-back _ _ _ _ c.before.loop.invariant (λ low. absurd (omega arith)))
+returns-2 : tie.Need-returns invariant-loop-p decreases-loop-p
+returns-2 c = (omega arith, largest-back _ _ _ _ c.loop-p.invariant (λ low. absurd (omega arith)))
 
-pub largest-by-links-spec : {M : Type 1} → statement M
-largest-by-links-spec =
+pub largest_by_links_spec : {M : Type 1} → statement M
+largest_by_links_spec =
     tie.close
     (tie.spec
-    invariant-loop
-    decreases-loop
+    invariant-loop-p
+    decreases-loop-p
     loop-holds
     (λ c. omega arith)
     (λ c. omega arith)

@@ -7,37 +7,37 @@ use borrow.Author.Rules.{rules}
 use Rattle.metrics.proofs.engine.seen.note.Statement.{statement}
 use Rattle.metrics.proofs.engine.seen.note.Tie as tie
 
-returns : tie.Need-returns
-returns c = let p = c.before.before.requires in noted-copy _ _ _ _ _ _ p.few _ p.low p.high c.if1.true
+returns : tie.Need-returns-then-records-at-ne0
+returns c = let p = c.requires in noted-copy _ _ _ _ _ _ p.few _ p.low p.high c.if-records-at-ne0.true
 
-element-write-numbers : tie.Need-element-write-numbers
-element-write-numbers c = let p = c.before.before.requires in omega (arith, noting-few _ _ _ _ _ _ p)
+element-write-numbers : tie.Need-bounds-numbers-place
+element-write-numbers c = let p = c.requires in omega (arith, noting-few _ _ _ _ _ _ p)
 
-add-t25 : tie.Need-overflow-add-t25
-add-t25 c = let p = c.before.before.before.requires in omega (arith, noting-few _ _ _ _ _ _ p)
+add-t25 : tie.Need-overflow_add-result
+add-t25 c = let p = c.requires in omega (arith, noting-few _ _ _ _ _ _ p)
 
-returns-2 : tie.Need-returns-2
+returns-2 : tie.Need-returns-then-number-next
 returns-2 c =
     let p =
-    c.before.before.before.requires in noted-reordered _ _ _ _ _ _ p.few _ p.low p.high c.before.if1.false c.if2.true
+    c.requires in noted-reordered _ _ _ _ _ _ p.few _ p.low p.high c.if-records-at-ne0.false c.if-number-next.true
 
-add-note-skipped : tie.Need-overflow-add-note-skipped
-add-note-skipped c = let p = c.before.before.before.before.requires in omega (arith, noting-few _ _ _ _ _ _ p)
+add-note-skipped : tie.Need-overflow_add-count
+add-note-skipped c = let p = c.requires in omega (arith, noting-few _ _ _ _ _ _ p)
 
-cast-note-skipped : tie.Need-overflow-cast-note-skipped
-cast-note-skipped c = let p = c.before.before.before.before.requires in omega (arith, noting-few _ _ _ _ _ _ p)
+cast-note-skipped : tie.Need-overflow_cast-count
+cast-note-skipped c = let p = c.requires in omega (arith, noting-few _ _ _ _ _ _ p)
 
-add-t17 : tie.Need-overflow-add-t17
-add-t17 c = let p = c.before.before.before.before.before.requires in omega (arith, noting-few _ _ _ _ _ _ p)
+add-t17 : tie.Need-overflow_add-result-2
+add-t17 c = let p = c.requires in omega (arith, noting-few _ _ _ _ _ _ p)
 
-returns-3 : tie.Need-returns-3
+returns-3 : tie.Need-returns
 returns-3 c =
-    let p = c.before.before.before.before.before.requires in
-    noted-in-order _ _ _ _ _ _ p.few _ p.low p.high c.before.before.before.if1.false c.before.before.if2.false _
-    c.note-skipped.ensures
+    let p = c.requires in
+    noted-in-order _ _ _ _ _ _ p.few _ p.low p.high c.if-records-at-ne0.false c.if-number-next.false _
+    c.note_skipped.ensures
 
-pub note-spec : {M : Type 1} → statement M
-note-spec =
+pub note_spec : {M : Type 1} → statement M
+note_spec =
     tie.close
     (tie.spec
     (λ c. search rules) (λ c. search rules)

@@ -12,30 +12,30 @@ use Rattle.metrics.proofs.engine.seen.note_skipped.Statement.{statement}
 use Rattle.metrics.proofs.engine.seen.note_skipped.Tie as tie
 
 -- skipped₀ and s₀ are the values where the loop begins, skipped and s those at its head
-abbrev invariant-loop : tie.invariant-loop
-invariant-loop skipped₀ from to position s₀ skipped s =
+abbrev invariant-loop-s : tie.invariant-loop-s
+invariant-loop-s skipped₀ from to position s₀ skipped s =
     (from ≤ s) × (length skipped ≡ number_places) × Filled from s position skipped₀ skipped × (s ≤ from + (to - from))
 
-abbrev decreases-loop : tie.decreases-loop
-decreases-loop skipped₀ from to position s₀ skipped s = to - s
+abbrev decreases-loop-s : tie.decreases-loop-s
+decreases-loop-s skipped₀ from to position s₀ skipped s = to - s
 
-loop-holds : tie.Need-loop-init invariant-loop decreases-loop
+loop-holds : tie.Need-loop-s-init invariant-loop-s decreases-loop-s
 loop-holds c = (omega arith, c.requires.1, filled_none _ _ _, omega arith)
 
-loop-again : tie.Need-loop-preserved invariant-loop decreases-loop
+loop-again : tie.Need-loop-s-preserved invariant-loop-s decreases-loop-s
 loop-again c =
-    let h = c.before.loop.invariant in
+    let h = c.loop-s.invariant in
     (omega arith, simp length-set h.1, filled_more _ _ _ _ _ h.0 (omega arith) h.2, omega arith)
 
-returns : tie.Need-returns invariant-loop decreases-loop
-returns c = filled-to _ _ _ _ _ _ c.loop-test.false c.before.loop.invariant.3 c.before.loop.invariant.2
+returns : tie.Need-returns invariant-loop-s decreases-loop-s
+returns c = filled-to _ _ _ _ _ _ c.loop-s-test.false c.loop-s.invariant.3 c.loop-s.invariant.2
 
-pub note-skipped-spec : {M : Type 1} → statement M
-note-skipped-spec =
+pub note_skipped_spec : {M : Type 1} → statement M
+note_skipped_spec =
     tie.close
     (tie.spec
-    invariant-loop
-    decreases-loop
+    invariant-loop-s
+    decreases-loop-s
     loop-holds
     (λ c. omega arith)
     (λ c. omega arith)

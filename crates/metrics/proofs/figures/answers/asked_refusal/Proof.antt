@@ -9,16 +9,16 @@ use borrow.Author.Rules.{rules}
 use Rattle.metrics.proofs.figures.answers.asked_refusal.Statement.{statement}
 use Rattle.metrics.proofs.figures.answers.asked_refusal.Tie as tie
 
-returns : tie.Need-returns
+returns : tie.Need-returns-then-own-ne-NONE
 returns c =
-    let a = c.before.args in
-    sym (first-due a.own (refusal_if (outside a.low a.high a.asked) asked_outside ∷ []) (omega (arith, c.if1.true)))
+    let a = c.args in
+    sym (first-due a.own (refusal_if (outside a.low a.high a.asked) asked_outside ∷ []) (omega (arith, c.if-own-ne-NONE.true)))
 
-returns-2 : tie.Need-returns-2
-returns-2 c = rw (c.before.before.if1.false, ← c.before.outside.ensures, c.if2.true)
+returns-2 : tie.Need-returns-then-outside
+returns-2 c = rw (c.if-own-ne-NONE.false, ← c.outside.ensures, c.if-outside.true)
 
-returns-3 : tie.Need-returns-3
-returns-3 c = rw (c.before.before.if1.false, ← c.before.outside.ensures, c.if2.false)
+returns-3 : tie.Need-returns
+returns-3 c = rw (c.if-own-ne-NONE.false, ← c.outside.ensures, c.if-outside.false)
 
-pub asked-refusal-spec : {M : Type 1} → statement M
-asked-refusal-spec = tie.close (tie.spec returns (λ c κs. search rules) returns-2 returns-3)
+pub asked_refusal_spec : {M : Type 1} → statement M
+asked_refusal_spec = tie.close (tie.spec returns (λ c κs. search rules) returns-2 returns-3)

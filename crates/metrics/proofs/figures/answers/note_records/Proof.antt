@@ -12,55 +12,55 @@ use Rattle.metrics.proofs.figures.answers.note_records.Statement.{statement}
 use Rattle.metrics.proofs.figures.answers.note_records.Tie as tie
 
 -- numbers₀ to i₀ are the values where the loop begins, numbers to i those at its head
-abbrev invariant-loop : tie.invariant-loop
-invariant-loop file layout n numbers₀ records₀ skipped₀ state₀ i₀ numbers records skipped state i =
+abbrev invariant-loop-i : tie.invariant-loop-i
+invariant-loop-i file layout n numbers₀ records₀ skipped₀ state₀ i₀ numbers records skipped state i =
     (i ≤ n) × EngineTables (before (decode file) i) numbers records skipped state
 
-abbrev decreases-loop : tie.decreases-loop
-decreases-loop file layout n numbers₀ records₀ skipped₀ state₀ i₀ numbers records skipped state i = n - i
+abbrev decreases-loop-i : tie.decreases-loop-i
+decreases-loop-i file layout n numbers₀ records₀ skipped₀ state₀ i₀ numbers records skipped state i = n - i
 
 -- record i + 1 is there
-here : (c : tie.In-loop invariant-loop decreases-loop) → HasRecord (decode c.before.before.before.before.args.file.now)
-    c.before.before.before.before.args.layout c.before.loop.i
-here c = let p = c.before.before.before.before.requires in record { file = p.0; inside = omega (arith, c.loop-test.true, p.1) }
+here : (c : tie.In-loop-i invariant-loop-i decreases-loop-i) → HasRecord (decode c.args.file.now)
+    c.args.layout c.loop-i.i
+here c = let p = c.requires in record { file = p.0; inside = omega (arith, c.loop-i-test.true, p.1) }
 
-loop-holds : tie.Need-loop-init invariant-loop decreases-loop
-loop-holds c = (omega arith, rw c.start-state.ensures c.before.before.requires.2)
+loop-holds : tie.Need-loop-i-init invariant-loop-i decreases-loop-i
+loop-holds c = (omega arith, rw c.start_state-state.ensures c.requires.2)
 
-number-of-requires : tie.Need-number-of-requires invariant-loop decreases-loop
+number-of-requires : tie.Need-number_of-number-requires invariant-loop-i decreases-loop-i
 number-of-requires c κs = here c
 
-note-requires : tie.Need-note-requires invariant-loop decreases-loop
+note-requires : tie.Need-note-state-requires invariant-loop-i decreases-loop-i
 note-requires c κs =
-    noting _ _ _ (here c.before.before.before.before) _ _ _ _ c.before.before.before.before.before.loop.invariant.1 _
-    c.before.before.before.number_of.ensures.0
+    noting _ _ _ (here c.before.before.before.before) _ _ _ _ c.loop-i.invariant.1 _
+    c.number_of-number.ensures.0
 
-add-i : tie.Need-overflow-add-i invariant-loop decreases-loop
-add-i c = omega (arith, c.before.before.before.before.before.loop-test.true)
+add-i : tie.Need-overflow_add-i invariant-loop-i decreases-loop-i
+add-i c = omega (arith, c.loop-i-test.true)
 
-loop-less : tie.Need-loop-smaller invariant-loop decreases-loop
-loop-less c = omega (arith, c.before.before.before.before.before.loop-test.true)
+loop-less : tie.Need-loop-i-smaller invariant-loop-i decreases-loop-i
+loop-less c = omega (arith, c.loop-i-test.true)
 
-loop-again : tie.Need-loop-preserved invariant-loop decreases-loop
+loop-again : tie.Need-loop-i-preserved invariant-loop-i decreases-loop-i
 loop-again c = (
-  omega (arith, c.before.before.before.before.before.loop-test.true),
+  omega (arith, c.loop-i-test.true),
   noted-follows _ _ _ (here c.before.before.before.before.before) _ _ _ _
-      c.before.before.before.before.before.before.loop.invariant.1 _ c.before.before.before.before.number_of.ensures.0 _ _ _
-      _ _ c.note.ensures,
+      c.loop-i.invariant.1 _ c.number_of-number.ensures.0 _ _ _
+      _ _ c.note-state.ensures,
 )
 
-returns : tie.Need-returns invariant-loop decreases-loop
+returns : tie.Need-returns invariant-loop-i decreases-loop-i
 returns c =
-    let l = c.before.loop in
-    let e : l.i ≡ c.before.before.before.before.args.n = omega (arith, c.loop-test.false) in
+    let l = c.loop-i in
+    let e : l.i ≡ c.args.n = omega (arith, c.loop-i-test.false) in
     rw e at l.invariant.1
 
-pub note-records-spec : {M : Type 1} → statement M
-note-records-spec =
+pub note_records_spec : {M : Type 1} → statement M
+note_records_spec =
     tie.close
     (tie.spec
-    invariant-loop
-    decreases-loop
+    invariant-loop-i
+    decreases-loop-i
     (λ c κs. search rules)
     loop-holds
     number-of-requires

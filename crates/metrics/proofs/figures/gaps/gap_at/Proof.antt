@@ -5,11 +5,11 @@ use Rattle.metrics.proofs.Discovered.{gap_other}
 use Rattle.metrics.proofs.figures.gaps.gap_at.Statement.{statement}
 use Rattle.metrics.proofs.figures.gaps.gap_at.Tie as tie
 
-returns : tie.Need-returns
-returns c = let p = c.before.before.requires in λ l m. gap_other l _ m _ p.0 p.1 c.if1.true
+returns : tie.Need-returns-then-discoverers-place-eq0
+returns c = let p = c.requires in λ l m. gap_other l _ m _ p.0 p.1 c.if-discoverers-place-eq0.true
 
-pub gap-at-spec : {M : Type 1} → statement M
-gap-at-spec =
+pub gap_at_spec : {M : Type 1} → statement M
+gap_at_spec =
     tie.close
     (tie.spec
     (λ c. search rules) (λ c. search rules)

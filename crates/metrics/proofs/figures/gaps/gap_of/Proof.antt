@@ -12,42 +12,42 @@ use Rattle.metrics.proofs.figures.gaps.gap_of.Tie as tie
 
 -- ---- places
 
-abbrev start : tie.After-discoverers → tie.Start
+abbrev start : tie.After-discoverers-1 → tie.Start
 start c = c.before.before.before.before
 
 -- the refusal is that of the call
-refusal : (c : tie.After-asked-refusal) → c.asked-refusal.result
-    ≡ record_refusal (decode c.before.before.args.file.now) c.before.before.args.asked
-refusal c = laid-record _ _ c.before.before.requires _ c.before.before.args.asked c.asked-refusal.ensures
+refusal : (c : tie.After-asked_refusal-refusal) → c.asked_refusal-refusal.result
+    ≡ record_refusal (decode c.args.file.now) c.args.asked
+refusal c = laid-record _ _ c.requires _ c.args.asked c.asked_refusal-refusal.ensures
 
-returns : tie.Need-returns
-returns c = gap-answered-refused _ _ _ (refusal c.before) c.if1.true
+returns : tie.Need-returns-then-refusal-ne-NONE
+returns c = gap-answered-refused _ _ _ (refusal c.before) c.if-refusal-ne-NONE.true
 
-note-discoverers-requires : tie.Need-note-discoverers-requires
+note-discoverers-requires : tie.Need-note_discoverers-position-requires
 note-discoverers-requires c κs =
-    let r = record-laid _ _ c.before.before.before.before.requires _ _ (refusal c.before.before) c.before.if1.false in
-    (c.before.before.before.before.requires, r.0, r.1, search rules)
+    let r = record-laid _ _ c.requires _ _ (refusal c.before.before) c.if-refusal-ne-NONE.false in
+    (c.requires, r.0, r.1, search rules)
 
-returns-2 : tie.Need-returns-2
+returns-2 : tie.Need-returns-then-position-eq0
 returns-2 c =
-    gap-copy _ _ (start c.before.before).requires _ _ (refusal c.before.before.before.before) c.before.before.before.if1.false
-    _ c.before.note-discoverers.ensures.0 c.if2.true
+    gap-copy _ _ (start c.before.before).requires _ _ (refusal c.before.before.before.before) c.if-refusal-ne-NONE.false
+    _ c.note_discoverers-position.ensures.0 c.if-position-eq0.true
 
-gap-at-requires : tie.Need-gap-at-requires
+gap-at-requires : tie.Need-gap_at-requires
 gap-at-requires c κs = (
-  omega (arith, c.before.if2.false),
+  omega (arith, c.if-position-eq0.false),
   place-few _ _ (start c.before.before.before).requires
       (start c.before.before.before).args.asked _ (refusal c.before.before.before.before.before)
-      c.before.before.before.before.if1.false _ c.before.before.note-discoverers.ensures.0 c.before.if2.false,
+      c.if-refusal-ne-NONE.false _ c.note_discoverers-position.ensures.0 c.if-position-eq0.false,
 )
 
-returns-3 : tie.Need-returns-3
+returns-3 : tie.Need-returns
 returns-3 c =
-    let m = c.before.before.before.note-discoverers.ensures in
+    let m = c.note_discoverers-position.ensures in
     gap-placed _ _ (start c.before.before.before.before).requires _ _ (refusal c.before.before.before.before.before.before)
-    c.before.before.before.before.before.if1.false _ m.0 c.before.before.if2.false _ (c.gap_at.ensures _ m.1)
+    c.if-refusal-ne-NONE.false _ m.0 c.if-position-eq0.false _ (c.gap_at.ensures _ m.1)
 
-pub gap-of-spec : {M : Type 1} → statement M
-gap-of-spec =
+pub gap_of_spec : {M : Type 1} → statement M
+gap_of_spec =
     tie.close
     (tie.spec (λ c κs. search rules) returns note-discoverers-requires returns-2 gap-at-requires returns-3)

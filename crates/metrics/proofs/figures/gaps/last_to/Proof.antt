@@ -9,30 +9,30 @@ use Rattle.metrics.proofs.figures.gaps.last_to.Statement.{statement}
 use Rattle.metrics.proofs.figures.gaps.last_to.Tie as tie
 
 -- q₀ is q where the loop begins
-abbrev invariant-loop : tie.invariant-loop
-invariant-loop discoverers p q₀ q = (q ≤ p) × (last_to discoverers p ≡ last_to discoverers q)
+abbrev invariant-loop-q : tie.invariant-loop-q
+invariant-loop-q discoverers p q₀ q = (q ≤ p) × (last_to discoverers p ≡ last_to discoverers q)
 
-abbrev decreases-loop : tie.decreases-loop
-decreases-loop discoverers p q₀ q = q
+abbrev decreases-loop-q : tie.decreases-loop-q
+decreases-loop-q discoverers p q₀ q = q
 
-loop-holds : tie.Need-loop-init invariant-loop decreases-loop
+loop-holds : tie.Need-loop-q-init invariant-loop-q decreases-loop-q
 loop-holds c = (omega arith, refl)
 
-returns : tie.Need-returns invariant-loop decreases-loop
-returns c = sym (c.before.before.before.loop.invariant.1 ∙ last-here _ _ c.before.before.loop-test.true c.if1.true)
+returns : tie.Need-returns-then-discoverers-place-ne0 invariant-loop-q decreases-loop-q
+returns c = sym (c.loop-q.invariant.1 ∙ last-here _ _ c.loop-q-test.true c.if-discoverers-place-ne0.true)
 
-loop-again : tie.Need-loop-preserved invariant-loop decreases-loop
-loop-again c = (omega arith, c.before.before.before.loop.invariant.1 ∙ last-before _ _ c.before.before.loop-test.true c.if1.false)
+loop-again : tie.Need-loop-q-preserved invariant-loop-q decreases-loop-q
+loop-again c = (omega arith, c.loop-q.invariant.1 ∙ last-before _ _ c.loop-q-test.true c.if-discoverers-place-ne0.false)
 
-returns-2 : tie.Need-returns-2 invariant-loop decreases-loop
-returns-2 c = sym (c.before.loop.invariant.1 ∙ last_none _ _ c.loop-test.false)
+returns-2 : tie.Need-returns invariant-loop-q decreases-loop-q
+returns-2 c = sym (c.loop-q.invariant.1 ∙ last_none _ _ c.loop-q-test.false)
 
-pub last-to-spec : {M : Type 1} → statement M
-last-to-spec =
+pub last_to_spec : {M : Type 1} → statement M
+last_to_spec =
     tie.close
     (tie.spec
-    invariant-loop
-    decreases-loop
+    invariant-loop-q
+    decreases-loop-q
     loop-holds
     (λ c. omega arith)
     (λ c. omega arith)

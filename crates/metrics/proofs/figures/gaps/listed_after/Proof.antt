@@ -5,21 +5,21 @@ use borrow.Author.Rules.{rules}
 use Rattle.metrics.proofs.figures.gaps.listed_after.Statement.{statement}
 use Rattle.metrics.proofs.figures.gaps.listed_after.Tie as tie
 
-returns : tie.Need-returns
-returns c = (count_same _ _ c.if1.true, c.before.requires.1)
+returns : tie.Need-returns-then-position-eq0
+returns c = (count_same _ _ c.if-position-eq0.true, c.requires.1)
 
-returns-2 : tie.Need-returns-2
+returns-2 : tie.Need-returns-then-discoverers-place-eq0
 returns-2 c =
-    let p = c.before.before.before.requires in
-    let h = c.before.before.if1.false in
-    (count_next _ _ h, last-stays _ _ _ _ p.1 (p.2 h) c.if2.true)
+    let p = c.requires in
+    let h = c.if-position-eq0.false in
+    (count_next _ _ h, last-stays _ _ _ _ p.1 (p.2 h) c.if-discoverers-place-eq0.true)
 
-returns-3 : tie.Need-returns-3
+returns-3 : tie.Need-returns
 returns-3 c =
-    let h = c.before.before.if1.false in
-    (count_next _ _ h, last-moves _ _ h c.if2.false)
+    let h = c.if-position-eq0.false in
+    (count_next _ _ h, last-moves _ _ h c.if-discoverers-place-eq0.false)
 
-pub listed-after-spec : {M : Type 1} → statement M
-listed-after-spec =
+pub listed_after_spec : {M : Type 1} → statement M
+listed_after_spec =
     tie.close
     (tie.spec returns (λ c. search rules) (λ c. search rules) returns-2 returns-3)

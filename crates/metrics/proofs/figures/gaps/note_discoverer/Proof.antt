@@ -10,36 +10,36 @@ use borrow.Author.Rules.{rules}
 use Rattle.metrics.proofs.figures.gaps.note_discoverer.Statement.{statement}
 use Rattle.metrics.proofs.figures.gaps.note_discoverer.Tie as tie
 
-enum_told : tie.Need-enum-told
+enum_told : tie.Need-enum_told-1
 enum_told c = search rules
 
-returns : tie.Need-returns
-returns c = λ l a k m. marked-same l a _ (ap is_reordered k.is ∙ rw c.enum_told.given.1) m
+returns : tie.Need-returns-in-Duplicate
+returns c = λ l a k m. marked-same l a _ (ap is_reordered k.is ∙ rw c.in-Duplicate.is) m
 
-returns-2 : tie.Need-returns-2
-returns-2 c = λ l a k m. marked-same l a _ (ap is_reordered k.is ∙ rw c.enum-told2.given.1) m
+returns-2 : tie.Need-returns-in-InOrder
+returns-2 c = λ l a k m. marked-same l a _ (ap is_reordered k.is ∙ rw c.in-InOrder.is) m
 
-element-copy-out-if1 : tie.Need-element-copy-out-if1
-element-copy-out-if1 c = let p = rw c.before.class.given.1 at c.before.before.before.requires.2 in omega (arith, p)
+element-copy-out-if1 : tie.Need-bounds-discoverers-place
+element-copy-out-if1 c = let p = rw c.in-Reordered.is at c.requires.2 in omega (arith, p)
 
-element-write-discoverers : tie.Need-element-write-discoverers
+element-write-discoverers : tie.Need-bounds-discoverers-place-then-discoverers-place-eq0
 element-write-discoverers c =
-    let p = rw c.before.before.before.class.given.1 at c.before.before.before.before.before.requires.2 in omega (arith, p)
+    let p = rw c.in-Reordered.is at c.requires.2 in omega (arith, p)
 
-returns-3 : tie.Need-returns-3
+returns-3 : tie.Need-returns-then-discoverers-place-eq0
 returns-3 c = λ l a k m.
-    let is = c.before.before.before.class.given.1 in
-    let p = c.before.before.before.before.before.requires in
-    rw (eq-eqb _ 0 c.if1.true) at (marked-late l a _ _ _ (rw is at k) (rw is at p.2) p.1 m)
+    let is = c.in-Reordered.is in
+    let p = c.requires in
+    rw (eq-eqb _ 0 c.if-discoverers-place-eq0.true) at (marked-late l a _ _ _ (rw is at k) (rw is at p.2) p.1 m)
 
-returns-4 : tie.Need-returns-4
+returns-4 : tie.Need-returns-else-discoverers-place-eq0
 returns-4 c = λ l a k m.
-    let is = c.before.before.before.class.given.1 in
-    let p = c.before.before.before.before.before.requires in
-    rw (ne_eqb _ 0 c.if1.false) at (marked-late l a _ _ _ (rw is at k) (rw is at p.2) p.1 m)
+    let is = c.in-Reordered.is in
+    let p = c.requires in
+    rw (ne_eqb _ 0 c.if-discoverers-place-eq0.false) at (marked-late l a _ _ _ (rw is at k) (rw is at p.2) p.1 m)
 
-pub note-discoverer-spec : {M : Type 1} → statement M
-note-discoverer-spec =
+pub note_discoverer_spec : {M : Type 1} → statement M
+note_discoverer_spec =
     tie.close
     (tie.spec
     enum_told

@@ -18,89 +18,89 @@ use Rattle.metrics.proofs.figures.gaps.note_to.Statement.{statement}
 use Rattle.metrics.proofs.figures.gaps.note_to.Tie as tie
 
 -- numbers₀ to i₀ are the values where the loop begins, numbers to i those at its head
-abbrev invariant-loop : tie.invariant-loop
-invariant-loop file layout from to numbers₀ records₀ skipped₀ discoverers₀ state₀ i₀ numbers records skipped discoverers state i =
+abbrev invariant-loop-i : tie.invariant-loop-i
+invariant-loop-i file layout from to numbers₀ records₀ skipped₀ discoverers₀ state₀ i₀ numbers records skipped discoverers state i =
     (i ≤ to) × EngineTables (before (decode file) i) numbers records skipped state × DiscoverersAt (answers_to (decode file) i) discoverers
 
-abbrev decreases-loop : tie.decreases-loop
-decreases-loop file layout from to numbers₀ records₀ skipped₀ discoverers₀ state₀ i₀ numbers records skipped discoverers state i = to - i
+abbrev decreases-loop-i : tie.decreases-loop-i
+decreases-loop-i file layout from to numbers₀ records₀ skipped₀ discoverers₀ state₀ i₀ numbers records skipped discoverers state i = to - i
 
 -- ---- places
 
-abbrev head : tie.After-class-of invariant-loop decreases-loop → tie.At-loop invariant-loop decreases-loop
-head k = k.before.before.before.before.before
+abbrev head : tie.After-class_of-class invariant-loop-i decreases-loop-i → tie.At-loop-i invariant-loop-i decreases-loop-i
+head k = k.before.before.before
 
-abbrev sample : tie.At-loop invariant-loop decreases-loop → Decoded
-sample l = decode l.before.before.args.file.now
+abbrev sample : tie.At-loop-i invariant-loop-i decreases-loop-i → Decoded
+sample l = decode l.args.file.now
 
 -- ---- a turn
 
 -- record i + 1 is there
-here : (c : tie.In-loop invariant-loop decreases-loop) → HasRecord (sample c.before) c.before.before.before.args.layout c.before.loop.i
-here c = let p = c.before.before.before.requires in record { file = p.0; inside = omega (arith, c.loop-test.true, p.2) }
+here : (c : tie.In-loop-i invariant-loop-i decreases-loop-i) → HasRecord (sample c.before) c.args.layout c.loop-i.i
+here c = let p = c.requires in record { file = p.0; inside = omega (arith, c.loop-i-test.true, p.2) }
 
-here-k : (k : tie.After-class-of invariant-loop decreases-loop) → HasRecord (sample (head k)) (head k).before.before.args.layout (head k).loop.i
-here-k k = here k.before.before.before.before
+here-k : (k : tie.After-class_of-class invariant-loop-i decreases-loop-i) → HasRecord (sample (head k)) (head k).args.layout (head k).loop-i.i
+here-k k = here k.before.before
 
 -- its class is its answer's
-class-answer : (k : tie.After-class-of invariant-loop decreases-loop) → ClassOf (head k).loop.state.count k.class_of.result
-    (answer_at (sample (head k)) (head k).loop.i)
+class-answer : (k : tie.After-class_of-class invariant-loop-i decreases-loop-i) → ClassOf (head k).loop-i.state.count k.class_of-class.result
+    (answer_at (sample (head k)) (head k).loop-i.i)
 class-answer k =
-    let n = k.before.before.before.number_of.ensures in
-    told (sample (head k)) (head k).loop.i _ _ _ _ (head k).loop.invariant.1 _ n.0 n.1 n.2 _ k.class_of.ensures
+    let n = k.number_of-number.ensures in
+    told (sample (head k)) (head k).loop-i.i _ _ _ _ (head k).loop-i.invariant.1 _ n.0 n.1 n.2 _ k.class_of-class.ensures
 
 -- the first arrivals before it, and the arrivals, are few
-few : (k : tie.After-class-of invariant-loop decreases-loop) → ((head k).loop.state.count ≤ (head k).loop.i) × ((head k).loop.i < arrivals_most)
-few k = numbered-le _ _ _ (here-k k) _ _ (head k).loop.invariant.1.numbered
+few : (k : tie.After-class_of-class invariant-loop-i decreases-loop-i) → ((head k).loop-i.state.count ≤ (head k).loop-i.i) × ((head k).loop-i.i < arrivals_most)
+few k = numbered-le _ _ _ (here-k k) _ _ (head k).loop-i.invariant.1.numbered
 
-loop-holds : tie.Need-loop-init invariant-loop decreases-loop
-loop-holds c = let p = c.before.requires in (p.1, p.3, p.4)
+loop-holds : tie.Need-loop-i-init invariant-loop-i decreases-loop-i
+loop-holds c = let p = c.requires in (p.1, p.3, p.4)
 
-number-of-requires : tie.Need-number-of-requires invariant-loop decreases-loop
+number-of-requires : tie.Need-number_of-number-requires invariant-loop-i decreases-loop-i
 number-of-requires c κs = here c
 
-class-of-requires : tie.Need-class-of-requires invariant-loop decreases-loop
-class-of-requires c κs = c.before.before.number_of.ensures.2
+class-of-requires : tie.Need-class_of-class-requires invariant-loop-i decreases-loop-i
+class-of-requires c κs = c.number_of-number.ensures.2
 
-note-discoverer-requires : tie.Need-note-discoverer-requires invariant-loop decreases-loop
+note-discoverer-requires : tie.Need-note_discoverer-requires invariant-loop-i decreases-loop-i
 note-discoverer-requires c κs =
-    let k = c.before in
-    let l = (head k).loop in
-    (l.inv.2.places, omega (arith, few k), inside-told _ _ _ (here-k k) _ _ _ _ l.inv.1 k.class_of.result (class-answer k))
+    let k = c in
+    let l = (head k.before).loop-i in
+    (l.invariant.2.places, omega (arith, few k.before), inside-told _ _ _ (here-k k.before) _ _ _ _ l.invariant.1 k.class_of-class.result (class-answer k.before))
 
-note-requires : tie.Need-note-requires invariant-loop decreases-loop
+note-requires : tie.Need-note-state-requires invariant-loop-i decreases-loop-i
 note-requires c κs =
-    let k = c.before.before.before.before.before in
-    noting _ _ _ (here-k k) _ _ _ _ (head k).loop.invariant.1 _ k.before.before.before.number_of.ensures.0
+    let k = c in
+    noting _ _ _ (here-k k.before.before.before.before.before) _ _ _ _ (head k.before.before.before.before.before).loop-i.invariant.1 _ k.number_of-number.ensures.0
 
-add-i : tie.Need-overflow-add-i invariant-loop decreases-loop
+add-i : tie.Need-overflow_add-i invariant-loop-i decreases-loop-i
 add-i c = omega (arith, few c.before.before.before.before.before.before)
 
-loop-less : tie.Need-loop-smaller invariant-loop decreases-loop
+loop-less : tie.Need-loop-i-smaller invariant-loop-i decreases-loop-i
 loop-less c =
-    let k = c.before.before.before.before.before.before in omega (arith, k.before.before.before.before.loop-test.true)
+    let k = c in omega (arith, k.loop-i-test.true)
 
-loop-again : tie.Need-loop-preserved invariant-loop decreases-loop
+loop-again : tie.Need-loop-i-preserved invariant-loop-i decreases-loop-i
 loop-again c =
-    let k = c.before.before.before.before.before.before in
-    let l = (head k).loop in (
-      omega (arith, k.before.before.before.before.loop-test.true),
-      noted-follows _ _ _ (here-k k) _ _ _ _ l.inv.1 _ k.before.before.before.number_of.ensures.0 _ _ _ _ _ c.note.ensures,
-      rw (answers_next _ _ _ (here-k k)) (c.before.before.before.before.note-discoverer.ensures _ _ (class-answer k) l.inv.2),
+    let k = c in
+    let l = (head k.before.before.before.before.before.before).loop-i in (
+      omega (arith, k.loop-i-test.true),
+      noted-follows _ _ _ (here-k k.before.before.before.before.before.before) _ _ _ _ l.invariant.1 _ k.number_of-number.ensures.0 _ _ _ _ _ c.note-state.ensures,
+      rw (answers_next _ _ _ (here-k k.before.before.before.before.before.before)) (c.note_discoverer.ensures _ _ (class-answer k.before.before.before.before.before.before) l.invariant.2),
     )
 
-returns : tie.Need-returns invariant-loop decreases-loop
+returns : tie.Need-returns invariant-loop-i decreases-loop-i
 returns c =
-    let l = c.before.loop in
-    let e : l.i ≡ c.before.before.before.args.to = omega (arith, l.invariant.0, c.loop-test.false) in
+    let l = c.loop-i in
+    let e : l.i ≡ c.args.to = omega (arith, l.invariant.0, c.loop-i-test.false) in
     (rw e at l.invariant.1, rw e at l.invariant.2)
 
-pub note-to-spec : {M : Type 1} → statement M
-note-to-spec =
+pub note_to_spec : {M : Type 1} → statement M
+note_to_spec =
     tie.close
     (tie.spec
-    invariant-loop
-    decreases-loop
+    invariant-loop-i
+    decreases-loop-i
     loop-holds
     number-of-requires
     class-of-requires

@@ -14,7 +14,7 @@ use Rattle.metrics.proofs.figures.gaps.position_at.Statement.{statement}
 use Rattle.metrics.proofs.figures.gaps.position_at.Tie as tie
 
 abbrev start : tie.After-wide → tie.Start
-start r = r.before.before.before.before
+start r = r.before.before.before.before.before
 
 abbrev sample : tie.After-wide → Decoded
 sample r = decode (start r).args.file.now
@@ -23,23 +23,23 @@ sample r = decode (start r).args.file.now
 recorded : (r : tie.After-wide)
     → r.wide.result ≡ first_record (arrival_at (sample r) (start r).args.i).number (sample_arrivals (sample r))
 recorded r =
-    let n = r.before.before.number_of.ensures in
+    let n = r.number_of-at.ensures in
     r.wide.ensures ∙ (start r).requires.1.at _ n.1 n.2 ∙ ap (λ (s : ℕ). first_record s (sample_arrivals (sample r))) n.0
 
-number-of-requires : tie.Need-number-of-requires
-number-of-requires c κs = c.before.requires.0
+number-of-requires : tie.Need-number_of-at-requires
+number-of-requires c κs = c.requires.0
 
-add-result : tie.Need-overflow-add-result
-add-result c = let s = start c.before in omega (arith, next-few _ _ _ s.pre.0 _ s.pre.2)
+add-result : tie.Need-overflow_add-result
+add-result c = let s = start c.before in omega (arith, next-few _ _ _ s.requires.0 _ s.requires.2)
 
-returns : tie.Need-returns
-returns c = let s = start c.before in position-new _ _ _ s.pre.0 _ (recorded c.before) _ s.pre.2 c.if1.true
+returns : tie.Need-returns-then-wide-i
+returns c = let s = start c.before in position-new _ _ _ s.requires.0 _ (recorded c.before) _ s.requires.2 c.if-wide-i.true
 
-returns-2 : tie.Need-returns-2
-returns-2 c = let s = start c.before in position-copy _ _ _ s.pre.0 _ (recorded c.before) _ s.pre.2 c.if1.false
+returns-2 : tie.Need-returns
+returns-2 c = let s = start c.before in position-copy _ _ _ s.requires.0 _ (recorded c.before) _ s.requires.2 c.if-wide-i.false
 
-pub position-at-spec : {M : Type 1} → statement M
-position-at-spec =
+pub position_at_spec : {M : Type 1} → statement M
+position_at_spec =
     tie.close
     (tie.spec
     number-of-requires

@@ -7,23 +7,23 @@ use borrow.Author.Rules.{rules}
 use Rattle.metrics.proofs.figures.gaps.position_of.Statement.{statement}
 use Rattle.metrics.proofs.figures.gaps.position_of.Tie as tie
 
-enum_told : tie.Need-enum-told
+enum_told : tie.Need-enum_told-1
 enum_told c = search rules
 
-returns : tie.Need-returns
+returns : tie.Need-returns-in-Duplicate
 unfolding position_of
-returns c = λ a k. rw (k.is, c.enum_told.given.1)
+returns c = λ a k. rw (k.is, c.in-Duplicate.is)
 
-returns-2 : tie.Need-returns-2
+returns-2 : tie.Need-returns-in-InOrder
 unfolding position_of
-returns-2 c = λ a k. rw (k.is, c.enum-told2.given.1) (known_some _ (λ z. omega (arith, z)))
+returns-2 c = λ a k. rw (k.is, c.in-InOrder.is) (known_some _ (λ z. omega (arith, z)))
 
-returns-3 : tie.Need-returns-3
+returns-3 : tie.Need-returns-in-Reordered
 unfolding position_of
-returns-3 c = λ a k. rw (k.is, c.enum-told3.given.1) (known_some _ (λ z. omega (arith, z)))
+returns-3 c = λ a k. rw (k.is, c.in-Reordered.is) (known_some _ (λ z. omega (arith, z)))
 
-pub position-of-spec : {M : Type 1} → statement M
-position-of-spec =
+pub position_of_spec : {M : Type 1} → statement M
+position_of_spec =
     tie.close
     (tie.spec
     enum_told

@@ -12,27 +12,27 @@ use Rattle.metrics.proofs.figures.gaps.put_gaps.Tie as tie
 
 -- ---- places
 
-abbrev start : tie.After-start-state → tie.Start
+abbrev start : tie.After-start_state → tie.Start
 start c = c.before.before.before.before.before.before.before
 
-note-to-requires : tie.Need-note-to-requires
+note-to-requires : tie.Need-note_to-requires
 note-to-requires c κs =
     let s = start c in
     let d = decode s.args.file.now in
-    (s.pre.0, omega arith, omega arith, rw c.start-state.ensures (follows-start d), marked_start d)
+    (s.requires.0, omega arith, omega arith, rw c.start_state.ensures (follows-start d), marked_start d)
 
-list-gaps-requires : tie.Need-list-gaps-requires
+list-gaps-requires : tie.Need-list_gaps-requires
 list-gaps-requires c κs =
-    let m = c.before.before.before in
-    let s = start m.before in
+    let m = c in
+    let s = start m.before.before.before.before in
     let all : s.args.layout.arrivals ≤ s.args.layout.arrivals = omega arith in
-    let f = m.note-to.ensures in
-    (s.pre.0, s.pre.1, recorded-all _ _ _ s.pre.0 f.0.recorded, rw (answers-end _ _ _ s.pre.0 all) at f.1)
+    let f = m.note_to.ensures in
+    (s.requires.0, s.requires.1, recorded-all _ _ _ s.requires.0 f.0.recorded, rw (answers-end _ _ _ s.requires.0 all) at f.1)
 
 returns : tie.Need-returns
-returns c = c.before.before.list-gaps.ensures
+returns c = c.list_gaps.ensures
 
-pub put-gaps-spec : {M : Type 1} → statement M
-put-gaps-spec =
+pub put_gaps_spec : {M : Type 1} → statement M
+put_gaps_spec =
     tie.close
     (tie.spec (λ c κs. search rules) note-to-requires list-gaps-requires (λ c. search rules) returns)

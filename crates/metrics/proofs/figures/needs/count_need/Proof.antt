@@ -6,21 +6,21 @@ use Rattle.metrics.proofs.Accommodation.{counted-in, counted-out}
 use Rattle.metrics.proofs.figures.needs.count_need.Statement.{statement}
 use Rattle.metrics.proofs.figures.needs.count_need.Tie as tie
 
-add-counts : tie.Need-overflow-add-counts
-add-counts c = let s = c.before.before.before in omega (arith, s.requires.1 c.before.before.step_of.result c.before.if1.true)
+add-counts : tie.Need-overflow_add-counts
+add-counts c = let s = c in omega (arith, s.requires.1 c.step_of-step.result c.if-step.true)
 
-returns : tie.Need-returns
+returns : tie.Need-returns-then-step
 returns c =
-    let s = c.before.before.before in
-    counted-in s.args.low s.args.shift s.args.need _ s.requires.0 _ c.before.before.step_of.ensures c.before.if1.true
+    let s = c in
+    counted-in s.args.low s.args.shift s.args.need _ s.requires.0 _ c.step_of-step.ensures c.if-step.true
 
-returns-2 : tie.Need-returns-2
+returns-2 : tie.Need-returns-else-step
 returns-2 c =
-    let s = c.before.before in
-    counted-out s.args.low s.args.shift s.args.need _ s.requires.0 _ c.before.step_of.ensures c.if1.false
+    let s = c in
+    counted-out s.args.low s.args.shift s.args.need _ s.requires.0 _ c.step_of-step.ensures c.if-step.false
 
-pub count-need-spec : {M : Type 1} → statement M
-count-need-spec =
+pub count_need_spec : {M : Type 1} → statement M
+count_need_spec =
     tie.close
     (tie.spec
     (λ c κs. search rules) (λ c. search rules) (λ c. search rules)

@@ -21,8 +21,8 @@ use Rattle.metrics.proofs.figures.needs.late_need.Tie as tie
 -- ---- places
 
 -- the start, from where the tree has returned the byte offset
-abbrev start : tie.After-offset-by-tree → tie.Start
-start q = q.before.before.before.before.before.before
+abbrev start : tie.After-offset_by_tree-by_tree → tie.Start
+start q = q.before.before.before.before.before
 
 -- the discontinuity is at one of the positions
 place : (c : tie.Start) → (1 ≤ c.args.at) × (c.args.at ≤ c.args.count) × (c.args.count ≤ sent_most)
@@ -30,51 +30,51 @@ place c =
     let p = c.requires in
     omega (arith, late-place _ _ _ _ _ p.there p.classed _ _ p.numbered p.recorded, p.there.inside, p.there.file.few)
 
-offset-by-tree-requires : tie.Need-offset-by-tree-requires
+offset-by-tree-requires : tie.Need-offset_by_tree-by_tree-requires
 offset-by-tree-requires c κs =
-    let p = c.before.before.before.before.before.requires in
+    let p = c.requires in
     let n = number-few _ _ _ p.there _ p.is in
     (need-filling _ _ _ _ _ _ _ _ _ _ p, n.1, n.2)
 
-late-time-requires : tie.Need-late-time-requires
+late-time-requires : tie.Need-late_time-late-requires
 late-time-requires c κs =
-    let p = c.before.before.before.before.requires in
+    let p = c.requires in
     (p.there, p.classed, p.numbered, p.recorded, ap (λ (a : Arrival). a.time) p.is)
 
-returns : tie.Need-returns
+returns : tie.Need-returns-in-Packets
 returns c =
-    let p = c.before.before.before.before.requires in
-    (rw c.enum_told.given.1 (need-packets _ _ _ p.classed), p.totalled)
+    let p = c.requires in
+    (rw c.in-Packets.is (need-packets _ _ _ p.classed), p.totalled)
 
-returns-2 : tie.Need-returns-2
+returns-2 : tie.Need-returns-in-Octets
 returns-2 c =
-    let q = c.before.before.before.before in
-    let s = start q in
-    let p = s.pre in
+    let q = c in
+    let s = start q.before.before.before.before in
+    let p = s.requires in
     let d = decode s.args.file.now in
     let n = number-few _ _ _ p.there _ p.is in
-    let made = q.offset-by-tree.ensures _ p.numbered p.totalled in
+    let made = q.offset_by_tree-by_tree.ensures _ p.numbered p.totalled in
     let is = made.1 p.new ∙ ap (byte_offset (size_of d) (firsts (before d s.args.i))) n.0 in
-    let told = q.before.before.enum-told2.given.1 in (
+    let told = q.in-Octets.is in (
       rw told (need-octets _ _ _ p.classed _ (late-offset _ _ _ _ _ p.there p.classed _ _ p.numbered p.recorded _ is)),
       made.0,
     )
 
-returns-3 : tie.Need-returns-3
+returns-3 : tie.Need-returns-in-Time
 returns-3 c =
-    let p = c.before.before.before.before.before.before.requires in (
-      rw c.before.before.enum-told3.given.1 (need-time _ _ _ p.classed _ _ c.before.late-time.ensures
-          c.waiting-time.ensures),
+    let p = c.requires in (
+      rw c.in-Time.is (need-time _ _ _ p.classed _ _ c.late_time-late.ensures
+          c.waiting_time.ensures),
       p.totalled,
     )
 
-pub late-need-spec : {M : Type 1} → statement M
-late-need-spec =
+pub late_need_spec : {M : Type 1} → statement M
+late_need_spec =
     tie.close
     (tie.spec
     (λ c. search rules)
-    (λ c. omega (arith, place c.before.before.before.before))
-    (λ c. omega (arith, place c.before.before.before.before))
+    (λ c. omega (arith, place c.before.before.before))
+    (λ c. omega (arith, place c.before.before.before))
     (λ c. search rules) (λ c. search rules)
     offset-by-tree-requires
     (λ c. search rules) (λ c. search rules)

@@ -6,7 +6,7 @@ use Rattle.metrics.proofs.figures.needs.needs_with.Tie as tie
 
 returns : tie.Need-returns
 unfolding needs_with
-returns c = (rw c.greater-of.ensures, c.before.before.count-need.ensures)
+returns c = (rw c.greater_of.ensures, c.count_need.ensures)
 
-pub needs-with-spec : {M : Type 1} → statement M
-needs-with-spec = tie.close (tie.spec (λ c κs. search rules) (λ c. search rules) (λ c κs. search rules) returns)
+pub needs_with_spec : {M : Type 1} → statement M
+needs_with_spec = tie.close (tie.spec (λ c κs. search rules) (λ c. search rules) (λ c κs. search rules) returns)

@@ -10,5 +10,5 @@ returns : tie.Need-returns
 unfolding quotient
 returns c = refl
 
-pub quotient-spec : {M : Type 1} → statement M
-quotient-spec = tie.close (tie.spec (λ c. search rules) (λ c. search rules) returns)
+pub quotient_spec : {M : Type 1} → statement M
+quotient_spec = tie.close (tie.spec (λ c. search rules) (λ c. search rules) returns)

@@ -5,13 +5,13 @@ use borrow.Author.Rules.{rules}
 use Rattle.metrics.proofs.figures.quotients.ratio_of.Statement.{statement}
 use Rattle.metrics.proofs.figures.quotients.ratio_of.Tie as tie
 
-returns : tie.Need-returns
+returns : tie.Need-returns-then-whole-eq0
 unfolding ratio_by
-returns c = simp (eq-eqb _ _ c.if1.true)
+returns c = simp (eq-eqb _ _ c.if-whole-eq0.true)
 
-returns-2 : tie.Need-returns-2
+returns-2 : tie.Need-returns
 unfolding ratio_by
-returns-2 c = simp (ne_eqb _ _ c.before.if1.false, c.quotient.ensures)
+returns-2 c = simp (ne_eqb _ _ c.if-whole-eq0.false, c.quotient.ensures)
 
-pub ratio-of-spec : {M : Type 1} → statement M
-ratio-of-spec = tie.close (tie.spec returns (λ c κs. search rules) returns-2)
+pub ratio_of_spec : {M : Type 1} → statement M
+ratio_of_spec = tie.close (tie.spec returns (λ c κs. search rules) returns-2)

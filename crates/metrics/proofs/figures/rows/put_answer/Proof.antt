@@ -10,26 +10,26 @@ use Rattle.metrics.specs.Private.Rows.{with_row}
 use Rattle.metrics.proofs.figures.rows.put_answer.Statement.{statement}
 use Rattle.metrics.proofs.figures.rows.put_answer.Tie as tie
 
-abbrev start : tie.After-slice-known2 → tie.Start
+abbrev start : tie.After-slice_known-2-1 → tie.Start
 start c = c.before.before.before.before.before.before.before
 
-returns : tie.Need-returns
+returns : tie.Need-returns-then-i-from
 unfolding with_row
-returns c = let a = c.before.before.args in rw (lt-ltb a.i a.from c.if1.true)
+returns c = let a = c.args in rw (lt-ltb a.i a.from c.if-i-from.true)
 
-put-row-requires : tie.Need-put-row-requires
-put-row-requires c κs = c.before.before.before.before.requires c.before.before.if1.false
+put-row-requires : tie.Need-put_row-requires
+put-row-requires c κs = c.requires c.if-i-from.false
 
-returns-2 : tie.Need-returns-2
+returns-2 : tie.Need-returns
 unfolding with_row
 returns-2 c =
     let a = (start c).args in
-    rw (le-ltb a.i a.from c.before.before.before.before.before.if1.false)
-    (c.before.before.put-row.ensures
-    ∙ ap (λ (r : List ℕ). splice (8 * (a.i - a.from)) r a.rows.now) c.before.before.before.before.row_of.ensures)
+    rw (le-ltb a.i a.from c.if-i-from.false)
+    (c.put_row.ensures
+    ∙ ap (λ (r : List ℕ). splice (8 * (a.i - a.from)) r a.rows.now) c.row_of-row.ensures)
 
-pub put-answer-spec : {M : Type 1} → statement M
-put-answer-spec =
+pub put_answer_spec : {M : Type 1} → statement M
+put_answer_spec =
     tie.close
     (tie.spec
     returns

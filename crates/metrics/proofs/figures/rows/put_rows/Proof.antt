@@ -20,94 +20,94 @@ use Rattle.metrics.proofs.figures.rows.put_rows.Statement.{statement}
 use Rattle.metrics.proofs.figures.rows.put_rows.Tie as tie
 
 -- rows₀ to i₀ are the values where the loop begins, rows to i those at its head
-abbrev invariant-loop : tie.invariant-loop
-invariant-loop file layout from rows₀ numbers₀ records₀ skipped₀ tree₀ engine₀ end i₀ rows numbers records skipped tree engine i =
+abbrev invariant-loop-i : tie.invariant-loop-i
+invariant-loop-i file layout from rows₀ numbers₀ records₀ skipped₀ tree₀ engine₀ end i₀ rows numbers records skipped tree engine i =
     (i ≤ end) × EngineState (decode file) i numbers records skipped tree engine
     × (rows ≡ over (rows_of (part from (i - from) (answers_of (decode file)))) rows₀)
 
-abbrev decreases-loop : tie.decreases-loop
-decreases-loop file layout from rows₀ numbers₀ records₀ skipped₀ tree₀ engine₀ end i₀ rows numbers records skipped tree engine i = end - i
+abbrev decreases-loop-i : tie.decreases-loop-i
+decreases-loop-i file layout from rows₀ numbers₀ records₀ skipped₀ tree₀ engine₀ end i₀ rows numbers records skipped tree engine i = end - i
 
 -- ---- places
 
-abbrev start : tie.At-loop invariant-loop decreases-loop → tie.Start invariant-loop decreases-loop
+abbrev start : tie.At-loop-i invariant-loop-i decreases-loop-i → tie.Start invariant-loop-i decreases-loop-i
 start h = h.before.before.before.before.before
 
-abbrev turn : tie.After-advance invariant-loop decreases-loop → tie.In-loop invariant-loop decreases-loop
+abbrev turn : tie.After-advance-step invariant-loop-i decreases-loop-i → tie.In-loop-i invariant-loop-i decreases-loop-i
 turn c = c.before.before.before.before.before.before
 
-abbrev advanced : tie.After-engine invariant-loop decreases-loop → tie.After-advance invariant-loop decreases-loop
+abbrev advanced : tie.After-engine-1 invariant-loop-i decreases-loop-i → tie.After-advance-step invariant-loop-i decreases-loop-i
 advanced c = c.before.before.before.before.before.before
 
 -- record i + 1 is there
-here : (t : tie.In-loop invariant-loop decreases-loop)
-    → HasRecord (decode (start t.before).args.file.now) (start t.before).args.layout t.before.loop.i
+here : (t : tie.In-loop-i invariant-loop-i decreases-loop-i)
+    → HasRecord (decode (start t.before).args.file.now) (start t.before).args.layout t.loop-i.i
 here t =
     record {
-      file = (start t.before).pre;
-      inside = omega (arith, t.loop-test.true, t.before.before.pass-end.ensures.inside);
+      file = (start t.before).requires;
+      inside = omega (arith, t.loop-i-test.true, t.pass_end-end.ensures.inside);
     }
 
 -- it is one of few
-few : (t : tie.In-loop invariant-loop decreases-loop) → t.before.loop.i < arrivals_most
-few t = omega (arith, (here t).inside, (start t.before).pre.few)
+few : (t : tie.In-loop-i invariant-loop-i decreases-loop-i) → t.loop-i.i < arrivals_most
+few t = omega (arith, (here t).inside, (start t.before).requires.few)
 
-loop-holds : tie.Need-loop-init invariant-loop decreases-loop
+loop-holds : tie.Need-loop-i-init invariant-loop-i decreases-loop-i
 loop-holds c =
-    let a = c.before.before.before.before.args in
+    let a = c.args in
     let d = decode a.file.now in
-    (omega arith, rw c.before.fresh-engine.ensures (engine-start d), rows_none d a.from a.rows.now)
+    (omega arith, rw c.fresh_engine-engine.ensures (engine-start d), rows_none d a.from a.rows.now)
 
-arrival-at-requires : tie.Need-arrival-at-requires invariant-loop decreases-loop
+arrival-at-requires : tie.Need-arrival_at-requires invariant-loop-i decreases-loop-i
 arrival-at-requires c κs = here c
 
-advance-requires : tie.Need-advance-requires invariant-loop decreases-loop
+advance-requires : tie.Need-advance-step-requires invariant-loop-i decreases-loop-i
 advance-requires c κs =
-    let t = c.before.before.before.before.before in
-    (here t, c.before.before.before.before.arrival-at.ensures.0, t.before.loop.invariant.1)
+    let t = c in
+    (here t.before.before.before.before.before, c.arrival_at.ensures.0, t.loop-i.invariant.1)
 
-put-answer-requires : tie.Need-put-answer-requires invariant-loop decreases-loop
+put-answer-requires : tie.Need-put_answer-requires invariant-loop-i decreases-loop-i
 put-answer-requires c κs =
     let t = turn c.before.before in
-    let end = t.before.before.pass-end.ensures in
-    rows-room _ _ _ _ (here t) _ _ t.before.loop.inv.2 (omega (arith, t.loop-test.taken, end.room))
+    let end = t.pass_end-end.ensures in
+    rows-room _ _ _ _ (here t) _ _ t.loop-i.invariant.2 (omega (arith, t.loop-i-test.true, end.room))
 
-add-i : tie.Need-overflow-add-i invariant-loop decreases-loop
+add-i : tie.Need-overflow_add-i invariant-loop-i decreases-loop-i
 add-i c = omega (arith, few (turn (advanced c)))
 
-loop-less : tie.Need-loop-smaller invariant-loop decreases-loop
-loop-less c = omega (arith, (turn (advanced c)).loop-test.taken)
+loop-less : tie.Need-loop-i-smaller invariant-loop-i decreases-loop-i
+loop-less c = omega (arith, (turn (advanced c)).loop-i-test.true)
 
-loop-again : tie.Need-loop-preserved invariant-loop decreases-loop
+loop-again : tie.Need-loop-i-preserved invariant-loop-i decreases-loop-i
 loop-again c =
     let t = turn (advanced c) in
-    let l = t.before.loop in
-    let step = (advanced c).advance.ensures in (
-      omega (arith, t.loop-test.taken),
+    let l = t.loop-i in
+    let step = (advanced c).advance-step.ensures in (
+      omega (arith, t.loop-i-test.true),
       step.2,
-      rows_next _ _ _ _ (here t) _ _ l.inv.2 _
-          (c.before.before.before.put-answer.ensures
+      rows_next _ _ _ _ (here t) _ _ l.invariant.2 _
+          (c.put_answer.ensures
           ∙ ap (λ (a : Answer). with_row (start t.before).args.from l.i (row_of a) l.rows) step.0),
     )
 
-same_length : tie.Need-same-length invariant-loop decreases-loop
+same_length : tie.Need-shape_of-rows invariant-loop-i decreases-loop-i
 same_length c =
-    let h = c.before in
-    let end = h.before.pass-end.ensures in
-    rows-kept _ _ (start h).args.from h.loop.i (start h).requires (omega (arith, h.loop.invariant.0, end.inside)) _ _
-    (omega (arith, h.loop.invariant.0, end.room)) h.loop.invariant.2
+    let h = c in
+    let end = h.pass_end-end.ensures in
+    rows-kept _ _ (start h.before).args.from h.loop-i.i (start h.before).requires (omega (arith, h.loop-i.invariant.0, end.inside)) _ _
+    (omega (arith, h.loop-i.invariant.0, end.room)) h.loop-i.invariant.2
 
-returns : tie.Need-returns invariant-loop decreases-loop
+returns : tie.Need-returns invariant-loop-i decreases-loop-i
 returns c =
-    let h = c.before in
-    rows-wanted _ _ _ _ _ (start h).requires _ _ h.before.pass-end.ensures h.loop.invariant.0 c.loop-test.false h.loop.invariant.2
+    let h = c in
+    rows-wanted _ _ _ _ _ (start h.before).requires _ _ h.pass_end-end.ensures h.loop-i.invariant.0 c.loop-i-test.false h.loop-i.invariant.2
 
-pub put-rows-spec : {M : Type 1} → statement M
-put-rows-spec =
+pub put_rows_spec : {M : Type 1} → statement M
+put_rows_spec =
     tie.close
     (tie.spec
-    invariant-loop
-    decreases-loop
+    invariant-loop-i
+    decreases-loop-i
     (λ c κs. search rules)
     (λ c κs. search rules)
     loop-holds

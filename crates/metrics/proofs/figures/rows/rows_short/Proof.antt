@@ -8,5 +8,5 @@ returns : tie.Need-returns
 unfolding rows_short
 returns c = refl
 
-pub rows-short-spec : {M : Type 1} → statement M
-rows-short-spec = tie.close (tie.spec returns)
+pub rows_short_spec : {M : Type 1} → statement M
+rows_short_spec = tie.close (tie.spec returns)

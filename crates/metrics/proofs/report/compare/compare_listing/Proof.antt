@@ -6,7 +6,7 @@ use Rattle.metrics.proofs.report.compare.compare_listing.Statement.{statement}
 use Rattle.metrics.proofs.report.compare.compare_listing.Tie as tie
 
 returns : tie.Need-returns
-returns c = c.before.take_all.ensures.compared refl
+returns c = c.take_all.ensures.compared refl
 
-pub compare-listing-spec : {M : Type 1} → statement M
-compare-listing-spec = tie.close (tie.spec (λ c. search rules) (λ c κs. search rules) returns)
+pub compare_listing_spec : {M : Type 1} → statement M
+compare_listing_spec = tie.close (tie.spec (λ c. search rules) (λ c κs. search rules) returns)

@@ -4,11 +4,11 @@ use borrow.Author.Tests.{not-true, not-false}
 use Rattle.metrics.proofs.report.compare.same_text.Statement.{statement}
 use Rattle.metrics.proofs.report.compare.same_text.Tie as tie
 
-returns : tie.Need-returns
-returns c = simp (not-true c.before.before.args.part.whole c.if1.true)
+returns : tie.Need-returns-then-not-part
+returns c = simp (not-true c.args.part.whole c.if-not-part.true)
 
-returns-2 : tie.Need-returns-2
-returns-2 c = simp (not-false c.before.before.before.args.part.whole c.before.if1.false)
+returns-2 : tie.Need-returns
+returns-2 c = simp (not-false c.args.part.whole c.if-not-part.false)
 
-pub same-text-spec : {M : Type 1} → statement M
-same-text-spec = tie.close (tie.spec returns returns-2)
+pub same_text_spec : {M : Type 1} → statement M
+same_text_spec = tie.close (tie.spec returns returns-2)

@@ -12,41 +12,41 @@ use Rattle.metrics.proofs.report.line_agreement.common.Statement.{statement}
 use Rattle.metrics.proofs.report.line_agreement.common.Tie as tie
 
 -- i₀ is i where the loop begins
-abbrev invariant-loop : tie.invariant-loop
-invariant-loop one other i₀ i = (i ≤ length one) × (common one other ≡ i + common (drop i one) (drop i other))
+abbrev invariant-loop-i : tie.invariant-loop-i
+invariant-loop-i one other i₀ i = (i ≤ length one) × (common one other ≡ i + common (drop i one) (drop i other))
 
-abbrev decreases-loop : tie.decreases-loop
-decreases-loop one other i₀ i = length one - i
+abbrev decreases-loop-i : tie.decreases-loop-i
+decreases-loop-i one other i₀ i = length one - i
 
-loop-holds : tie.Need-loop-init invariant-loop decreases-loop
+loop-holds : tie.Need-loop-i-init invariant-loop-i decreases-loop-i
 loop-holds c = (omega arith, sym (zero-add _))
 
-returns : tie.Need-returns invariant-loop decreases-loop
-returns c = sym (c.before.before.loop.invariant.1 ∙ common-cut _ _ _ c.if1.true)
+returns : tie.Need-returns-then-other-i invariant-loop-i decreases-loop-i
+returns c = sym (c.loop-i.invariant.1 ∙ common-cut _ _ _ c.if-other-i.true)
 
-returns-2 : tie.Need-returns-2 invariant-loop decreases-loop
+returns-2 : tie.Need-returns-then-one-i invariant-loop-i decreases-loop-i
 returns-2 c =
-    let l = c.before.before.before.before.before.loop in
-    sym (l.invariant.1 ∙ common-stop _ _ l.i c.before.before.before.before.loop-test.true c.before.before.before.if1.false
-    c.if2.true)
+    let l = c.loop-i in
+    sym (l.invariant.1 ∙ common-stop _ _ l.i c.loop-i-test.true c.if-other-i.false
+    c.if-one-i.true)
 
-loop-again : tie.Need-loop-preserved invariant-loop decreases-loop
+loop-again : tie.Need-loop-i-preserved invariant-loop-i decreases-loop-i
 loop-again c =
-    let l = c.before.before.before.before.before.loop in (
+    let l = c.loop-i in (
       omega arith,
-      l.invariant.1 ∙ common-step _ _ l.i c.before.before.before.before.loop-test.true
-          c.before.before.before.if1.false c.if2.false,
+      l.invariant.1 ∙ common-step _ _ l.i c.loop-i-test.true
+          c.if-other-i.false c.if-one-i.false,
     )
 
-returns-3 : tie.Need-returns-3 invariant-loop decreases-loop
-returns-3 c = sym (c.before.loop.invariant.1 ∙ common-end _ _ _ (omega arith))
+returns-3 : tie.Need-returns invariant-loop-i decreases-loop-i
+returns-3 c = sym (c.loop-i.invariant.1 ∙ common-end _ _ _ (omega arith))
 
-pub common-spec : {M : Type 1} → statement M
-common-spec =
+pub common_spec : {M : Type 1} → statement M
+common_spec =
     tie.close
     (tie.spec
-    invariant-loop
-    decreases-loop
+    invariant-loop-i
+    decreases-loop-i
     loop-holds
     returns
     (λ c. omega arith)

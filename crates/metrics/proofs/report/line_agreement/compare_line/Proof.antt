@@ -10,11 +10,11 @@ use Rattle.metrics.proofs.report.line_agreement.compare_line.Tie as tie
 
 returns : tie.Need-returns
 returns c =
-    let a = c.before.before.before.before.args in
-    let e : c.common.result ≡ common a.line.now (drop a.at a.text.now) =
-    c.common.ensures ∙ ap (common a.line.now) (rest_part a.text.now a.at) in
+    let a = c.args in
+    let e : c.common-octets.result ≡ common a.line.now (drop a.at a.text.now) =
+    c.common-octets.ensures ∙ ap (common a.line.now) (rest_part a.text.now a.at) in
     record { octets = e; whole = rw e }
 
-pub compare-line-spec : {M : Type 1} → statement M
-compare-line-spec =
+pub compare_line_spec : {M : Type 1} → statement M
+compare_line_spec =
     tie.close (tie.spec (λ c. search rules) (λ c. search rules) (λ c. search rules) (λ c κs. search rules) returns)

@@ -12,26 +12,26 @@ use Rattle.metrics.proofs.report.lines.take_record.Tie as tie
 
 -- ---- places
 
-abbrev start : tie.After-put-place → tie.Start
+abbrev start : tie.After-put_place → tie.Start
 start c = c.before.before.before.before
 
 -- the line has room in a buffer of one line
 few : (c : tie.Start) → length (record_line c.args.«record» c.args.number c.args.answer) ≤ 93
 few c = omega (arith, record-octets c.args.«record» c.args.number c.args.answer c.requires.1 c.requires.2 c.requires.3)
 
-line-part-requires : tie.Need-line-part-requires
+line-part-requires : tie.Need-line_part-requires
 line-part-requires c κs =
-    line-ready _ _ _ _ c.before.before.before.put_record.ensures.0 (few (start c.before.before.before.before))
-    (start c.before.before.before.before).requires.0 c.before.before.before.before.put-place.ensures
-    c.before.before.before.put_record.ensures.1
+    line-ready _ _ _ _ c.put_record-n.ensures.0 (few (start c.before.before.before))
+    (start c.before.before.before).requires.0 c.put_place.ensures
+    c.put_record-n.ensures.1
 
 returns : tie.Need-returns
 returns c =
-    line_taken _ _ _ _ c.before.before.before.before.put_record.ensures.0
-    (few (start c.before.before.before.before.before)) (start c.before.before.before.before.before).requires.0
-    c.before.before.before.before.before.put-place.ensures c.before.before.before.before.put_record.ensures.1
-    c.line-part.ensures
+    line_taken _ _ _ _ c.put_record-n.ensures.0
+    (few (start c.before.before.before.before)) (start c.before.before.before.before).requires.0
+    c.put_place.ensures c.put_record-n.ensures.1
+    c.line_part.ensures
 
-pub take-record-spec : {M : Type 1} → statement M
-take-record-spec =
+pub take_record_spec : {M : Type 1} → statement M
+take_record_spec =
     tie.close (tie.spec (λ c κs. search rules) (λ c κs. search rules) line-part-requires (λ c. search rules) returns)

@@ -27,159 +27,159 @@ use Rattle.metrics.proofs.report.listing_pass.take_records.Tie as tie
 
 -- numbers₀ to i₀ and out₀ are the values where the loop begins, the same without ₀ those at its head, with known for `counts`; out₀ has the
 -- first line
-abbrev invariant-loop : tie.invariant-loop
-invariant-loop file layout out₀ text comparing start numbers₀ records₀ skipped₀ tree₀ engine₀ counts₀ at₀ i₀ out numbers records skipped tree
+abbrev invariant-loop-i : tie.invariant-loop-i
+invariant-loop-i file layout out₀ text comparing start numbers₀ records₀ skipped₀ tree₀ engine₀ counts₀ at₀ i₀ out numbers records skipped tree
     engine known at i =
     (i ≤ layout.arrivals) × EngineState (decode file) i numbers records skipped tree engine × (known ≡ counts (answers_to (decode file) i))
     × PassedTo (decode file) layout text comparing i at out₀ out
 
-abbrev decreases-loop : tie.decreases-loop
-decreases-loop file layout out₀ text comparing start numbers₀ records₀ skipped₀ tree₀ engine₀ counts₀ at₀ i₀ out numbers records skipped tree
+abbrev decreases-loop-i : tie.decreases-loop-i
+decreases-loop-i file layout out₀ text comparing start numbers₀ records₀ skipped₀ tree₀ engine₀ counts₀ at₀ i₀ out numbers records skipped tree
     engine known at i =
     layout.arrivals - i
 
 -- ---- places
 
-abbrev start-of-shared-slice-known : tie.After-shared-slice-known invariant-loop decreases-loop → tie.Start invariant-loop decreases-loop
+abbrev start-of-shared-slice-known : tie.After-shared_slice_known-1 invariant-loop-i decreases-loop-i → tie.Start invariant-loop-i decreases-loop-i
 start-of-shared-slice-known c = c.before
 
-abbrev start : tie.At-loop invariant-loop decreases-loop → tie.Start invariant-loop decreases-loop
+abbrev start : tie.At-loop-i invariant-loop-i decreases-loop-i → tie.Start invariant-loop-i decreases-loop-i
 start c = c.before.before.before.before.before.before
 
-abbrev after-shared-slice-known : tie.At-loop invariant-loop decreases-loop → tie.After-shared-slice-known invariant-loop decreases-loop
+abbrev after-shared-slice-known : tie.At-loop-i invariant-loop-i decreases-loop-i → tie.After-shared_slice_known-1 invariant-loop-i decreases-loop-i
 after-shared-slice-known c = c.before.before.before.before.before
 
-abbrev head : tie.After-arrival-at invariant-loop decreases-loop → tie.At-loop invariant-loop decreases-loop
+abbrev head : tie.After-arrival_at-arrival invariant-loop-i decreases-loop-i → tie.At-loop-i invariant-loop-i decreases-loop-i
 head c = c.before.before.before
 
-abbrev after-arrival-at : tie.After-advance invariant-loop decreases-loop → tie.After-arrival-at invariant-loop decreases-loop
+abbrev after-arrival-at : tie.After-advance-step invariant-loop-i decreases-loop-i → tie.After-arrival_at-arrival invariant-loop-i decreases-loop-i
 after-arrival-at c = c.before.before.before.before.before
 
-abbrev after-advance : tie.After-out invariant-loop decreases-loop → tie.After-advance invariant-loop decreases-loop
+abbrev after-advance : tie.After-out-1 invariant-loop-i decreases-loop-i → tie.After-advance-step invariant-loop-i decreases-loop-i
 after-advance c = c.before.before.before.before
 
 -- record i + 1 is there
-here : (c : tie.Then1 invariant-loop decreases-loop) → HasRecord (decode (start c.before.before).args.file.now)
-    (start c.before.before).args.layout c.before.before.loop.i
-here c = record { file = (start c.before.before).pre.0; inside = c.if1.true }
+here : (c : tie.In-loop-i invariant-loop-i decreases-loop-i) → HasRecord (decode (start c.before.before).args.file.now)
+    (start c.before.before).args.layout c.loop-i.i
+here c = record { file = (start c.before.before).requires.0; inside = c.loop-i-test.true }
 
 -- it is one of few
-few : (c : tie.Then1 invariant-loop decreases-loop) → c.before.before.loop.i < arrivals_most
-few c = omega (arith, c.if1.true, (start c.before.before).pre.0.few)
+few : (c : tie.In-loop-i invariant-loop-i decreases-loop-i) → c.loop-i.i < arrivals_most
+few c = omega (arith, c.loop-i-test.true, (start c.before.before).requires.0.few)
 
 -- the offset after its line
-fits : (c : tie.After-struct-known2 invariant-loop decreases-loop) → (head (after-arrival-at (after-advance c.before.before))).loop.at
-    + c.before.before.before.take-record.result.octets < 2 ^ 64
+fits : (c : tie.After-struct_known-in-loop-i-1 invariant-loop-i decreases-loop-i) → (head (after-arrival-at (after-advance c.before.before))).loop-i.at
+    + c.take_record-part.result.octets < 2 ^ 64
 fits c =
     let a = (start (head (after-arrival-at (after-advance c.before.before)))).args in
     let h = here (after-arrival-at (after-advance c.before.before)).before in
     let lines =
     lines-within a.file.now a.layout h.file (below-fits w8 a.file.now
-    (after-shared-slice-known (head (after-arrival-at (after-advance c.before.before)))).shared-slice-known.given)
-    ((head (after-arrival-at (after-advance c.before.before))).loop.i + 1) (omega (arith, h.inside)) in
-    taken-fits (start (head (after-arrival-at (after-advance c.before.before)))).good.1.1.1.0.0
+    (after-shared-slice-known (head (after-arrival-at (after-advance c.before.before)))).shared_slice_known-1.given)
+    ((head (after-arrival-at (after-advance c.before.before))).loop-i.i + 1) (omega (arith, h.inside)) in
+    taken-fits (start (head (after-arrival-at (after-advance c.before.before)))).well_formed.1.1.1.0.0
     (omega (arith, h.file.few, lines))
-    (line-more _ _ _ _ h (head (after-arrival-at (after-advance c.before.before))).loop.inv.3
-    (ap (λ (b : Arrival). b.number) (after-arrival-at (after-advance c.before.before)).arrival-at.ensures.0)
-    (after-advance c.before.before).advance.ensures.0 c.before.before.before.take-record.ensures)
+    (line-more _ _ _ _ h (head (after-arrival-at (after-advance c.before.before))).loop-i.invariant.3
+    (ap (λ (b : Arrival). b.number) (after-arrival-at (after-advance c.before.before)).arrival_at-arrival.ensures.0)
+    (after-advance c.before.before).advance-step.ensures.0 c.take_record-part.ensures)
 
-loop-holds : tie.Need-loop-init invariant-loop decreases-loop
+loop-holds : tie.Need-loop-i-init invariant-loop-i decreases-loop-i
 loop-holds c =
     let d = decode (start-of-shared-slice-known c.before.before.before.before).args.file.now in (
       omega arith,
-      rw c.before.fresh-engine.ensures (engine-start d),
-      c.no-counts.ensures ∙ sym (ap counts (answers-start d)),
-      (start-of-shared-slice-known c.before.before.before.before).pre.2,
+      rw c.fresh_engine-engine.ensures (engine-start d),
+      c.no_counts-counts.ensures ∙ sym (ap counts (answers-start d)),
+      (start-of-shared-slice-known c.before.before.before.before).requires.2,
     )
 
-arrival-at-requires : tie.Need-arrival-at-requires invariant-loop decreases-loop
+arrival-at-requires : tie.Need-arrival_at-arrival-requires invariant-loop-i decreases-loop-i
 arrival-at-requires c κs = here c
 
-advance-requires : tie.Need-advance-requires invariant-loop decreases-loop
+advance-requires : tie.Need-advance-step-requires invariant-loop-i decreases-loop-i
 advance-requires c κs = (
   here c.before.before.before.before.before,
-  c.before.before.before.before.arrival-at.ensures.0,
-  (head c.before.before.before.before).loop.inv.1,
+  c.arrival_at-arrival.ensures.0,
+  (head c.before.before.before.before).loop-i.invariant.1,
 )
 
-add-take-record : tie.Need-overflow-add-take-record invariant-loop decreases-loop
+add-take-record : tie.Need-overflow_add-i invariant-loop-i decreases-loop-i
 add-take-record c = omega (arith, few (after-arrival-at c.before.before).before)
 
-take-record-requires : tie.Need-take-record-requires invariant-loop decreases-loop
+take-record-requires : tie.Need-take_record-part-requires invariant-loop-i decreases-loop-i
 take-record-requires c κs =
     let file = (start (head (after-arrival-at c.before.before))).args.file.now in
-    let l = (head (after-arrival-at c.before.before)).loop in (
+    let l = (head (after-arrival-at c.before.before)).loop-i in (
       record {
-        room = λ e. omega (arith, (start (head (after-arrival-at c.before.before))).pre.1.room e, l.inv.3.places);
-        inside = taken-inside l.inv.3;
+        room = λ e. omega (arith, (start (head (after-arrival-at c.before.before))).requires.1.room e, l.invariant.3.places);
+        inside = taken-inside l.invariant.3;
       },
       omega (arith, few (after-arrival-at c.before.before).before),
-      omega (arith, (after-arrival-at c.before.before).arrival-at.ensures.1),
-      rw c.before.before.advance.ensures.0 (answers-within file _ l.i
-          (below-fits w8 file (after-shared-slice-known (head (after-arrival-at c.before.before))).shared-slice-known.given)
+      omega (arith, (after-arrival-at c.before.before).arrival_at-arrival.ensures.1),
+      rw c.advance-step.ensures.0 (answers-within file _ l.i
+          (below-fits w8 file (after-shared-slice-known (head (after-arrival-at c.before.before))).shared_slice_known-1.given)
           (here (after-arrival-at c.before.before).before)),
     )
 
-part-after-requires : tie.Need-part-after-requires invariant-loop decreases-loop
+part-after-requires : tie.Need-part_after-requires invariant-loop-i decreases-loop-i
 part-after-requires c κs = fits c.before
 
-same_length : tie.Need-same-length invariant-loop decreases-loop
+same_length : tie.Need-shape_of-out-then-not-part invariant-loop-i decreases-loop-i
 same_length c =
-    c.before.before.before.before.before.take-record.ensures.places
-    ∙ (head (after-arrival-at (after-advance c.before.before.before.before))).loop.inv.3.places
+    c.take_record-part.ensures.places
+    ∙ (head (after-arrival-at (after-advance c.before.before.before.before))).loop-i.invariant.3.places
 
-returns : tie.Need-returns invariant-loop decreases-loop
+returns : tie.Need-returns-then-not-part invariant-loop-i decreases-loop-i
 returns c =
-    rw c.part-after.ensures
+    rw c.part_after.ensures
     (passed-stop _ _ _ _ (here (after-arrival-at (after-advance c.before.before.before.before)).before)
-    (head (after-arrival-at (after-advance c.before.before.before.before))).loop.inv.3
-    (ap (λ (b : Arrival). b.number) (after-arrival-at (after-advance c.before.before.before.before)).arrival-at.ensures.0)
-    (after-advance c.before.before.before.before).advance.ensures.0
-    c.before.before.before.before.before.take-record.ensures _ (not-true _ c.before.if2.true))
+    (head (after-arrival-at (after-advance c.before.before.before.before))).loop-i.invariant.3
+    (ap (λ (b : Arrival). b.number) (after-arrival-at (after-advance c.before.before.before.before)).arrival_at-arrival.ensures.0)
+    (after-advance c.before.before.before.before).advance-step.ensures.0
+    c.take_record-part.ensures _ (not-true _ c.if-not-part.true))
 
-add_at : tie.Need-overflow-add-at invariant-loop decreases-loop
+add_at : tie.Need-overflow_add-at invariant-loop-i decreases-loop-i
 add_at c = omega (arith, fits c.before.before)
 
-counts-after-requires : tie.Need-counts-after-requires invariant-loop decreases-loop
+counts-after-requires : tie.Need-counts_after-counts-requires invariant-loop-i decreases-loop-i
 counts-after-requires c κs =
     let r = (after-arrival-at (after-advance c.before.before.before.before)).before in
-    rw (head (after-arrival-at (after-advance c.before.before.before.before))).loop.inv.2
+    rw (head (after-arrival-at (after-advance c.before.before.before.before))).loop-i.invariant.2
     (counts-within _ (omega (arith, answers-length _ _ _ (here r), few r)))
 
-add-i : tie.Need-overflow-add-i invariant-loop decreases-loop
+add-i : tie.Need-overflow_add-i-in-loop-i invariant-loop-i decreases-loop-i
 add-i c = omega (arith, few (after-arrival-at (after-advance c.before.before.before.before.before.before)).before)
 
-loop-less : tie.Need-loop-smaller invariant-loop decreases-loop
+loop-less : tie.Need-loop-i-smaller invariant-loop-i decreases-loop-i
 loop-less c = omega (arith, (here (after-arrival-at (after-advance c.before.before.before.before.before.before)).before).inside)
 
-loop-again : tie.Need-loop-preserved invariant-loop decreases-loop
+loop-again : tie.Need-loop-i-preserved invariant-loop-i decreases-loop-i
 loop-again c =
-    let l = (head (after-arrival-at (after-advance c.before.before.before.before.before.before))).loop in
+    let l = (head (after-arrival-at (after-advance c.before.before.before.before.before.before))).loop-i in
     let h = here (after-arrival-at (after-advance c.before.before.before.before.before.before)).before in
-    let step = (after-advance c.before.before.before.before.before.before).advance.ensures in (
+    let step = (after-advance c.before.before.before.before.before.before).advance-step.ensures in (
       omega (arith, h.inside),
       step.2,
-      c.before.counts-after.ensures _ _ _ l.inv.2 step.1 ∙ sym (ap counts (answers_next _ _ _ h)),
-      passed-next _ _ _ _ h l.inv.3 (ap (λ (b : Arrival). b.number)
-          (after-arrival-at (after-advance c.before.before.before.before.before.before)).arrival-at.ensures.0) step.0
-          c.before.before.before.before.before.before.before.take-record.ensures
-          (not-false _ c.before.before.before.if2.false),
+      c.counts_after-counts.ensures _ _ _ l.invariant.2 step.1 ∙ sym (ap counts (answers_next _ _ _ h)),
+      passed-next _ _ _ _ h l.invariant.3 (ap (λ (b : Arrival). b.number)
+          (after-arrival-at (after-advance c.before.before.before.before.before.before)).arrival_at-arrival.ensures.0) step.0
+          c.take_record-part.ensures
+          (not-false _ c.if-not-part.false),
     )
 
-same-length-2 : tie.Need-same-length-2 invariant-loop decreases-loop
-same-length-2 c = c.before.before.loop.invariant.3.places
+same-length-2 : tie.Need-shape_of-out invariant-loop-i decreases-loop-i
+same-length-2 c = c.loop-i.invariant.3.places
 
-returns-2 : tie.Need-returns-2 invariant-loop decreases-loop
+returns-2 : tie.Need-returns invariant-loop-i decreases-loop-i
 returns-2 c =
-    let l = c.before.before.loop in
-    passed-all _ _ _ _ (start c.before.before).pre.0 l.invariant.0 c.if1.false l.invariant.3 l.invariant.2
+    let l = c.loop-i in
+    passed-all _ _ _ _ (start c.before.before).requires.0 l.invariant.0 c.loop-i-test.false l.invariant.3 l.invariant.2
 
-pub take-records-spec : {M : Type 1} → statement M
-take-records-spec =
+pub take_records_spec : {M : Type 1} → statement M
+take_records_spec =
     tie.close
     (tie.spec
-    invariant-loop
-    decreases-loop
+    invariant-loop-i
+    decreases-loop-i
     (λ c κs. search rules) (λ c κs. search rules)
     loop-holds
     arrival-at-requires
