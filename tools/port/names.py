@@ -108,7 +108,7 @@ def main(argv):
         rel = os.path.relpath(path, top)
         if path.endswith(".antt"):
             old = read(path)
-            new = turn(free(old, rel))
+            new = "\n".join(outside_strings(line, turn) for line in free(old, rel).split("\n"))
         elif path.endswith((".rt", ".edit")) and "/" in rel:
             old = read(path)
             new = "\n".join(outside_strings(line, turn) for line in old.split("\n"))

@@ -1,7 +1,7 @@
 -- `sums::sum_to` meets its contract. The loop's invariant: the sum, plus what index i and the indices after it hold, is the result modulo
 -- 2^32. A turn adds what index i holds; the indices after it are those of `rest i` (`parts_first`). The measure is i. Assumes nothing.
 use Rattle.std.proofs.Common.{◌≡◌, ℕ, ◌+◌, ◌%◌, ◌^◌, ◌<◌, List, length, arith, rules, le-ltb, lt-ltb}
-use Rattle.sums.specs.Tree.{rest, parts_to, sum_to, ExactSum}
+use Rattle.sums.specs.Tree.{parts_to, sum_to, ExactSum}
 use Rattle.sums.proofs.Lowest.{rest-low}
 use Rattle.sums.proofs.Summed.{parts_first, parts_none}
 use Rattle.sums.proofs.Exact.{sum-exact}

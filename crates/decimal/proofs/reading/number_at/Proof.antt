@@ -4,7 +4,6 @@
 -- carries. The measure is what is left of the octets. Assumes nothing.
 use Prim.Native.Nat.{◌-◌}
 use borrow.Author.Rules.{rules}
-use borrow.Author.Tests.{not-true, not-false}
 use mathlib.Core.Path.{sym, ◌∙◌}
 use lib.ListN.{length}
 use Rattle.decimal.proofs.Leading.{digit-bounds, none-past, back, Passed, passed_none, passed-more, passed-all}

@@ -6,7 +6,7 @@ use native.Mathlib.Omega.{arith}
 use mathlib.Core.Bool.{Bool, true, false, cond}
 use mathlib.Core.Path.{◌≡◌, refl, sym, ◌∙◌}
 use lib.Dec.{ltb}
-use borrow.Author.Tests.{le-ltb, ltb-false, not-true}
+use borrow.Author.Tests.{le-ltb, ltb-false}
 use Rattle.rfc4737.specs.Refusals.{outside}
 use Rattle.rfc4737.specs.Times.{back_most, too_early, next_reference}
 use Rattle.rfc4737.specs.Judge.{judge_one}

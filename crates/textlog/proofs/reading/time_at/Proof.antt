@@ -3,7 +3,6 @@
 use native.Mathlib.Omega.{arith}
 use mathlib.Core.Path.{sym, ◌∙◌}
 use borrow.Author.Rules.{rules}
-use borrow.Author.Tests.{not-true, not-false}
 use Rattle.octets.specs.Text.{line_feed}
 use Rattle.textlog.proofs.LeadingDigits.{mark-present}
 use Rattle.textlog.proofs.LinesAtPlaces.{within-log, time-none, time-ends, time-other, time-parted}
