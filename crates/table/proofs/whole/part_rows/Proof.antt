@@ -1,14 +1,13 @@
 -- `table::whole::part_rows` meets its contract: parts 1 to 16 have the rows that `rows_from` puts (`block-known`), and any other part has
 -- no records (`none-known`). Assumes nothing.
 use Prim.Native.Nat.{◌-◌, ◌≤◌}
-use mathlib.Core.Logic.{⊎_elim}
 use native.Mathlib.Omega.{arith}
 use borrow.Author.Rules.{rules}
-use borrow.Author.Tests.{ltb-true, ltb-false}
 use Rattle.sample.specs.Decode.{decode}
 use Rattle.metrics.proofs.FoundInFile.{laid}
 use Rattle.table.specs.Text.{block_start}
 use Rattle.table.proofs.Filled.{file-laid, none-known, block-known}
+use Rattle.table.proofs.whole.part_rows.Lts.{then-part-eq0-via-then-part-eq0, then-part-eq0-via-else-part-eq0+then-part-gt16}
 use Rattle.table.proofs.whole.part_rows.Statement.{statement}
 use Rattle.table.proofs.whole.part_rows.Tie as tie
 
@@ -19,11 +18,14 @@ returns c =
     let d = decode a.file.now in
     let base = laid a.file.now (λ i. (k.shared_slice_known-1.given i).fits) in
     let none : block_start d a.part ≤ block_start d (a.part - 1) =
-    ⊎_elim (λ w. omega (arith, w.true)) (λ w. omega (arith, ltb-true 16 a.part w.1.true, base.few)) c.if-part-eq0.branch in
+    elim c.then-part-eq0.branch [
+      | then-part-eq0-via-then-part-eq0 w ↦ omega arith
+      | then-part-eq0-via-else-part-eq0+then-part-gt16 w ↦ omega (arith, base.few)
+    ] in
     (file-laid _ (λ i. (k.shared_slice_known-1.given i).fits) c.check.ensures.0, none-known d a.part none _)
 
 mul-rows-from : tie.Need-overflow_mul-part
-mul-rows-from c = omega (arith, ltb-false 16 c.args.part c.if-part-gt16.false)
+mul-rows-from c = omega arith
 
 returns-2 : tie.Need-returns
 returns-2 c =
