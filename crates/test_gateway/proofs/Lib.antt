@@ -1,3 +1,0 @@
--- The walk that both functions share. Assumes nothing.
-mod HeldInLocal
-mod LocalStep
