@@ -1,5 +1,3 @@
 -- The walks and laws that functions share. Assumes nothing.
 mod Followed
 mod Measured
-mod PassedOn
-mod SteppedAndTold

@@ -14,8 +14,7 @@ use Rattle.fragments.proofs.order.Tie as tie
 
 returns : tie.Need-returns-then-refusal-ne0
 returns c =
-    let k = c in
-    let a = k.args in (
+    let a = c.args in (
       record {
         refusal = c.order_refusal-refusal.ensures;
         filled_flags = refused_over _
@@ -39,11 +38,9 @@ order-accepted-requires c κs =
 
 returns-2 : tie.Need-returns
 returns-2 c =
-    let r = c in
-    let k = r in
-    let a = k.args in (
+    let a = c.args in (
       record {
-        refusal = sym r.if-refusal-ne0.false ∙ r.order_refusal-refusal.ensures;
+        refusal = sym c.if-refusal-ne0.false ∙ c.order_refusal-refusal.ensures;
         filled_flags = c.order_accepted.ensures.0;
         filled_usable = c.order_accepted.ensures.1;
       },

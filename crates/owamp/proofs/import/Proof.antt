@@ -59,26 +59,24 @@ returns c =
     )
 
 returns-2 : tie.Need-returns-then-numbers-count
-returns-2 c =
-    let e = c in (
-      import-short-numbers _ (records e.before) (start e.before).args.numbers.now (start e.before).args.times.now (none e.before) (many e.before) c.if-numbers-count.true,
-      carried (start e.before).args.k (records e.before),
-    )
+returns-2 c = (
+  import-short-numbers _ (records c.before) (start c.before).args.numbers.now (start c.before).args.times.now (none c.before) (many c.before) c.if-numbers-count.true,
+  carried (start c.before).args.k (records c.before),
+)
 
 returns-3 : tie.Need-returns-then-times-count
-returns-3 c =
-    let e = c in (
-      import-short-times _ (records e.before.before) (start e.before.before).args.numbers.now (start e.before.before).args.times.now (none e.before.before) (many e.before.before) c.if-times-count.true,
-      carried (start e.before.before).args.k (records e.before.before),
-    )
+returns-3 c = (
+  import-short-times _ (records c.before.before) (start c.before.before).args.numbers.now (start c.before.before).args.times.now (none c.before.before) (many c.before.before) c.if-times-count.true,
+  carried (start c.before.before).args.k (records c.before.before),
+)
 
 fill-arrivals-requires : tie.Need-fill_arrivals-requires
 fill-arrivals-requires c κs =
-    let e = c in
-    let f = none-refused (start e.before.before.before.before).args.k (records e.before.before.before.before) (none e.before.before.before.before) in (
-      omega (arith, c.if-numbers-count.false, many e.before.before.before.before),
-      omega (arith, c.if-times-count.false, many e.before.before.before.before),
-      numbers_fit (start e.before.before.before.before).args.k (records_arrivals (records e.before.before.before.before)) f.most f.numbers,
+    let l = c.before.before.before.before in
+    let f = none-refused (start l).args.k (records l) (none l) in (
+      omega (arith, c.if-numbers-count.false, many l),
+      omega (arith, c.if-times-count.false, many l),
+      numbers_fit (start l).args.k (records_arrivals (records l)) f.most f.numbers,
       f.few,
     )
 
@@ -100,16 +98,15 @@ returns-4 : tie.Need-returns
 returns-4 c =
     let w = filled c.before.before.before in
     let r = long w in
-    let e = r in
-    let a = (start e.before.before).args in
-    let l = records_arrivals (records e.before.before) in
+    let a = (start r.before.before).args in
+    let l = records_arrivals (records r.before.before) in
     let f = w.fill_arrivals.ensures in
     let t =
-    times-converted (in_time_order l) _ a.times.now (in_order-ordered time_of l).rising (many e.before.before ∙ sym (order-length time_of l)) f.1
+    times-converted (in_time_order l) _ a.times.now (in_order-ordered time_of l).rising (many r.before.before ∙ sym (order-length time_of l)) f.1
     c.to_microseconds.ensures in
-    let os = records e.before.before in
+    let os = records r.before.before in
     let h = r.if-numbers-count.false in
-    let answer = import-filled a.k os a.numbers.now a.times.now _ (none e.before.before) (many e.before.before) h r.if-times-count.false f.0 t in
+    let answer = import-filled a.k os a.numbers.now a.times.now _ (none r.before.before) (many r.before.before) h r.if-times-count.false f.0 t in
     (answer, carried a.k os)
 
 pub import_spec : {M : Type 1} → statement M

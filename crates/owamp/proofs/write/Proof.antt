@@ -56,9 +56,8 @@ many c = (found-many (file c) _ (found c).0, records-many (arrivals_of_file (fil
 
 returns : tie.Need-returns-then-layout-ne0
 returns c =
-    let s = c in
-    let f = s.args.file.now in (
-      output-refused _ _ s.args.out.now _ (own-refusal f _ (found-refusal f _ c.check-layout.ensures.0)
+    let f = c.args.file.now in (
+      output-refused _ _ c.args.out.now _ (own-refusal f _ (found-refusal f _ c.check-layout.ensures.0)
           c.if-layout-ne0.true) c.if-layout-ne0.true,
       carried f (below-fits w8 f c.shared_slice_known-1.given),
     )
@@ -67,18 +66,17 @@ judge-seconds-requires : tie.Need-judge_seconds-refusal-requires
 judge-seconds-requires c κs = found c
 
 returns-2 : tie.Need-returns-then-refusal-ne0
-returns-2 c =
-    let e = c in (
-      output-refused _ _ (start e.before.before).args.out.now _ (times-refusal (file e.before.before) _ (none e.before.before) c.judge_seconds-refusal.ensures)
-          c.if-refusal-ne0.true,
-      carried (file e.before.before) (octets e.before.before),
-    )
+returns-2 c = (
+  output-refused _ _ (start c.before.before).args.out.now _ (times-refusal (file c.before.before) _ (none c.before.before) c.judge_seconds-refusal.ensures)
+      c.if-refusal-ne0.true,
+  carried (file c.before.before) (octets c.before.before),
+)
 
 returns-3 : tie.Need-returns-then-out-end
 returns-3 c =
-    let e = c in
-    let due = times-refusal (file e.before.before.before.before) 0 (none e.before.before.before.before) (sym c.if-refusal-ne0.false ∙ c.judge_seconds-refusal.ensures) in
-    (output-short _ _ (start e.before.before.before.before).args.out.now (sym due) (omega (arith, c.if-out-end.true, many e.before.before.before.before)), carried (file e.before.before.before.before) (octets e.before.before.before.before))
+    let l = c.before.before.before.before in
+    let due = times-refusal (file l) 0 (none l) (sym c.if-refusal-ne0.false ∙ c.judge_seconds-refusal.ensures) in
+    (output-short _ _ (start l).args.out.now (sym due) (omega (arith, c.if-out-end.true, many l)), carried (file l) (octets l))
 
 write-records-requires : tie.Need-write_records-requires
 write-records-requires c κs = (found c.before.before.before.before.before, omega (arith, c.if-out-end.false))
@@ -92,11 +90,9 @@ cast-t11 c =
 
 returns-4 : tie.Need-returns
 returns-4 c =
-    let r = c in
-    let e = accepted r.before.before.before.before in
-    let j = r in
-    let due = times-refusal (file e) 0 (none e) (sym j.if-refusal-ne0.false ∙ j.judge_seconds-refusal.ensures) in (
-      output-written _ _ (start e).args.out.now (sym due) (omega (arith, r.if-out-end.false, many e)) (omega (arith, many e))
+    let e = accepted c.before.before.before.before in
+    let due = times-refusal (file e) 0 (none e) (sym c.if-refusal-ne0.false ∙ c.judge_seconds-refusal.ensures) in (
+      output-written _ _ (start e).args.out.now (sym due) (omega (arith, c.if-out-end.false, many e)) (omega (arith, many e))
           (c.write_records.ensures ∙ sym (over-splice (records_of (arrivals_of_file (file e))) (start e).args.out.now)),
       carried (file e) (octets e),
     )

@@ -53,11 +53,10 @@ there c =
 
 loop-holds : tie.Need-loop-i-init invariant-loop-i decreases-loop-i
 loop-holds c =
-    let a = c in
-    let m = found-many a.args.file.now a.args.layout a.requires.0.0 in
-    let xs = arrivals_of_file a.args.file.now in
-    let r : 0 + record_width * length xs ≤ length a.args.out.now = omega (arith, a.requires.1) in
-    (search rules, write-start record_octets record_width record-long xs 0 a.args.out.now r)
+    let m = found-many c.args.file.now c.args.layout c.requires.0.0 in
+    let xs = arrivals_of_file c.args.file.now in
+    let r : 0 + record_width * length xs ≤ length c.args.out.now = omega (arith, c.requires.1) in
+    (search rules, write-start record_octets record_width record-long xs 0 c.args.out.now r)
 
 part-lent-end : tie.Need-slice_bounds-lent-end invariant-loop-i decreases-loop-i
 part-lent-end c =
@@ -67,33 +66,31 @@ part-lent-end c =
 
 put-packet-record-requires : tie.Need-put_packet_record-requires invariant-loop-i decreases-loop-i
 put-packet-record-requires c κs =
-    let l = c in
-    let a = start l.before.before.before in
+    let a = start c.before.before.before in
     let m = found-many a.args.file.now a.args.layout a.requires.0.0 in
     let xs = arrivals_of_file a.args.file.now in
     let r : 0 + record_width * length xs ≤ length a.args.out.now = omega (arith, a.requires.1) in
     let f = a.args.file.now in
-    let k = kept l.before.before.before in
+    let k = kept c.before.before.before in
     let e = ap (λ (x : Arrival). x.number) (there c.before) in
-    let o = below-fits w8 f l.shared_slice_known-1.given in
+    let o = below-fits w8 f c.shared_slice_known-1.given in
     let d = found-sample f a.args.layout a.requires.0.0 a.requires.0.1 in
-    let w = (number-within f (sample_of (decode f)) d o no_arrival l.loop-i.i (omega arith)).0 in
+    let w = (number-within f (sample_of (decode f)) d o no_arrival c.loop-i.i (omega arith)).0 in
     (omega arith, simp (length-take, length-drop) (omega arith))
 
 loop-again : tie.Need-loop-i-preserved invariant-loop-i decreases-loop-i
 loop-again c =
-    let l = c in
-    let a = start l.before.before.before.before.before.before in
+    let a = start c.before.before.before.before.before.before in
     let m = found-many a.args.file.now a.args.layout a.requires.0.0 in
     let xs = arrivals_of_file a.args.file.now in
     let r : 0 + record_width * length xs ≤ length a.args.out.now = omega (arith, a.requires.1) in
-    let i = l.loop-i.i in
+    let i = c.loop-i.i in
     let z : 0 + record_width * i ≡ record_width * i = zero-add (record_width * i) in
     let q : c.put_packet_record.new.lent ≡ put 0 (record_octets (get_or xs i no_arrival))
-    (taken (0 + record_width * i) record_width l.loop-i.out) =
+    (taken (0 + record_width * i) record_width c.loop-i.out) =
     rw z (c.put_packet_record.ensures ∙ ap (λ (x : Arrival). put 0 (record_octets x)
-    (taken (record_width * i) record_width l.loop-i.out)) (there c.before.before.before.before)) in
-    let n = write-next record_octets record_width record-long xs 0 a.args.out.now r i l.loop-i.invariant.1 no_arrival (omega arith) q in
+    (taken (record_width * i) record_width c.loop-i.out)) (there c.before.before.before.before)) in
+    let n = write-next record_octets record_width record-long xs 0 a.args.out.now r i c.loop-i.invariant.1 no_arrival (omega arith) q in
     (search rules, rw z at n)
 
 same_length : tie.Need-shape_of-out invariant-loop-i decreases-loop-i
@@ -102,12 +99,11 @@ same_length c = kept c.before
 returns : tie.Need-returns invariant-loop-i decreases-loop-i
 unfolding records_of
 returns c =
-    let l = c in
-    let a = start l.before in
+    let a = start c.before in
     let m = found-many a.args.file.now a.args.layout a.requires.0.0 in
     let xs = arrivals_of_file a.args.file.now in
     let r : 0 + record_width * length xs ≤ length a.args.out.now = omega (arith, a.requires.1) in
-    write_done record_octets record_width record-long xs 0 a.args.out.now r l.loop-i.i l.loop-i.invariant.1 (omega arith)
+    write_done record_octets record_width record-long xs 0 a.args.out.now r c.loop-i.i c.loop-i.invariant.1 (omega arith)
 
 pub write_records_spec : {M : Type 1} → statement M
 write_records_spec =

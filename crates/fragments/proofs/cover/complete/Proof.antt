@@ -41,9 +41,8 @@ piece-at-requires c κs =
 
 returns : tie.Need-returns-then-is_whole
 returns c =
-    let p = c in
-    let s = start p.before.before.before in
-    whole-found _ _ _ s.requires.1 0 p.piece_at-first.result s.requires.2 (read p.before.before) (sym c.is_whole.ensures ∙ c.if-is_whole.true)
+    let s = start c.before.before.before in
+    whole-found _ _ _ s.requires.1 0 c.piece_at-first.result s.requires.2 (read c.before.before) (sym c.is_whole.ensures ∙ c.if-is_whole.true)
 
 pub complete_spec : {M : Type 1} → statement M
 complete_spec =

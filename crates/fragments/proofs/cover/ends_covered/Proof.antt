@@ -39,45 +39,42 @@ inside c = omega (arith, c.loop-m.invariant.0, c.loop-m-test.true)
 read : (c : tie.After-piece_at-piece invariant-loop-m decreases-loop-m) → let l = c in
     c.piece_at-piece.result ≡ get_or (pieces l.before.before.before.before) (get_or (start l.before.before.before.before).args.run.now (l.loop-m.m - 1) 0) no_piece
 read c =
-    let l = c in c.piece_at-piece.ensures ∙ ap (λ i. get_or (pieces l.before.before.before.before) i no_piece) c.index_of.ensures
+    c.piece_at-piece.ensures ∙ ap (λ i. get_or (pieces c.before.before.before.before) i no_piece) c.index_of.ensures
 
 loop-holds : tie.Need-loop-m-init invariant-loop-m decreases-loop-m
 loop-holds c = (omega arith, unended-start _ _ _ c.requires.1 c.reach_of-reach.result)
 
 piece-at-requires : tie.Need-piece_at-piece-requires invariant-loop-m decreases-loop-m
 piece-at-requires c κs =
-    let l = c in
-    let a = (start l.before.before.before).args in (
+    let l = c.before.before.before in
+    let a = (start l).args in (
       omega (
         arith,
         c.index_of.ensures,
-        (start l.before.before.before).requires.1.inside (l.loop-m.m - 1) (inside c.before.before),
+        (start l).requires.1.inside (c.loop-m.m - 1) (inside c.before.before),
         pieces-length a.numbers.now a.times.now a.lengths.now a.mores.now a.offsets.now,
       ),
-      (start l.before.before.before).requires.0,
+      (start l).requires.0,
     )
 
 returns : tie.Need-returns-then-ends_by invariant-loop-m decreases-loop-m
 returns c =
-    let l = c in
-    ends_found _ _ _ (start l.before.before.before.before.before.before).requires.1 l.reach_of-reach.result (l.loop-m.m - 1) c.piece_at-piece.result
+    ends_found _ _ _ (start c.before.before.before.before.before.before).requires.1 c.reach_of-reach.result (c.loop-m.m - 1) c.piece_at-piece.result
     (inside c.before.before.before.before.before) (read c.before.before)
-    (sym c.ends_by.ensures ∙ c.if-ends_by.true) l.reach_of-reach.ensures
+    (sym c.ends_by.ensures ∙ c.if-ends_by.true) c.reach_of-reach.ensures
 
 loop-again : tie.Need-loop-m-preserved invariant-loop-m decreases-loop-m
-loop-again c =
-    let l = c in (
-      omega (arith, l.loop-m.invariant.0),
-      unended-next _ _ _ (start l.before.before.before.before.before.before).requires.1 l.reach_of-reach.result l.loop-m.m c.piece_at-piece.result
-          c.loop-m-test.true (read c.before.before)
-          (sym c.ends_by.ensures ∙ c.if-ends_by.false) l.loop-m.invariant.1,
-    )
+loop-again c = (
+  omega (arith, c.loop-m.invariant.0),
+  unended-next _ _ _ (start c.before.before.before.before.before.before).requires.1 c.reach_of-reach.result c.loop-m.m c.piece_at-piece.result
+      c.loop-m-test.true (read c.before.before)
+      (sym c.ends_by.ensures ∙ c.if-ends_by.false) c.loop-m.invariant.1,
+)
 
 returns-2 : tie.Need-returns invariant-loop-m decreases-loop-m
 returns-2 c =
-    let l = c in
-    ends-none _ _ _ (start l.before).requires.1 l.reach_of-reach.result l.loop-m.m c.loop-m-test.false l.loop-m.invariant.1
-    l.reach_of-reach.ensures
+    ends-none _ _ _ (start c.before).requires.1 c.reach_of-reach.result c.loop-m.m c.loop-m-test.false c.loop-m.invariant.1
+    c.reach_of-reach.ensures
 
 pub ends_covered_spec : {M : Type 1} → statement M
 ends_covered_spec =

@@ -34,26 +34,25 @@ loop-holds c = pass-start _ _ _ c.requires.1
 
 piece-at-requires : tie.Need-piece_at-piece-requires invariant-loop-m decreases-loop-m
 piece-at-requires c κs =
-    let l = c in
-    let a = (start l.before.before.before).args in (
+    let l = c.before.before.before in
+    let a = (start l).args in (
       omega (
         arith,
         c.index_of.ensures,
-        (start l.before.before.before).requires.1.inside l.loop-m.m c.loop-m-test.true,
+        (start l).requires.1.inside c.loop-m.m c.loop-m-test.true,
         pieces-length a.numbers.now a.times.now a.lengths.now a.mores.now a.offsets.now,
       ),
-      (start l.before.before.before).requires.0,
+      (start l).requires.0,
     )
 
 loop-again : tie.Need-loop-m-preserved invariant-loop-m decreases-loop-m
 loop-again c =
-    let l = c in
     let p = c.piece_at-piece in
-    pass-next _ _ _ (start l.before.before.before.before.before).requires.1 l.loop-m.reach l.loop-m.m _ p.result c.loop-m-test.true
-    (p.ensures ∙ ap (λ i. get_or (pieces l.before.before.before.before.before) i no_piece) c.index_of.ensures) c.reach_after-reach.ensures l.loop-m.invariant
+    pass-next _ _ _ (start c.before.before.before.before.before).requires.1 c.loop-m.reach c.loop-m.m _ p.result c.loop-m-test.true
+    (p.ensures ∙ ap (λ i. get_or (pieces c.before.before.before.before.before) i no_piece) c.index_of.ensures) c.reach_after-reach.ensures c.loop-m.invariant
 
 returns : tie.Need-returns invariant-loop-m decreases-loop-m
-returns c = let l = c in pass-done _ _ _ (start l.before).requires.1 l.loop-m.reach l.loop-m.m c.loop-m-test.false l.loop-m.invariant
+returns c = pass-done _ _ _ (start c.before).requires.1 c.loop-m.reach c.loop-m.m c.loop-m-test.false c.loop-m.invariant
 
 pub reach_of_spec : {M : Type 1} → statement M
 reach_of_spec =

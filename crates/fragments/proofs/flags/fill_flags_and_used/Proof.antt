@@ -88,9 +88,8 @@ kept-used c =
 -- the number of the arrival that is read lies in 1 to 4,096
 within : (c : tie.After-piece_at-piece invariant-loop-i decreases-loop-i) → (1 ≤ c.piece_at-piece.result.number) × (c.piece_at-piece.result.number ≤ sent_most)
 within c =
-    let l = c in
-    let m = many l.before.before in
-    rw c.piece_at-piece.ensures (piece-within sent_most _ _ _ _ _ (start l.before.before).requires.1 l.loop-i.i (omega (arith, c.loop-i-test.true)))
+    let m = many c.before.before in
+    rw c.piece_at-piece.ensures (piece-within sent_most _ _ _ _ _ (start c.before.before).requires.1 c.loop-i.i (omega (arith, c.loop-i-test.true)))
 
 loop-holds : tie.Need-loop-i-init invariant-loop-i decreases-loop-i
 loop-holds c = (search rules, refl, refl, expected-none, seen_start _)
@@ -109,7 +108,7 @@ array-read-old c = omega (arith, within c.before, c.loop-i.invariant.4.long)
 
 slice-read-is-copy : tie.Need-bounds-flagged-i invariant-loop-i decreases-loop-i
 slice-read-is-copy c =
-    let l = c in omega (arith, kept-flagged l.before.before.before.before, (start l.before.before.before.before).requires.3, c.loop-i-test.true)
+    omega (arith, kept-flagged c.before.before.before.before, (start c.before.before.before.before).requires.3, c.loop-i-test.true)
 
 array-write-seen : tie.Need-bounds-seen-p-in-loop-i invariant-loop-i decreases-loop-i
 array-write-seen c = omega (arith, within c.before.before.before.before, (read c.before).loop-i.invariant.4.long)
@@ -142,33 +141,31 @@ loop-less c = omega (arith, (read c.before.before.before.before.before).loop-i-t
 
 loop-again : tie.Need-loop-i-preserved invariant-loop-i decreases-loop-i
 loop-again c =
-    let k = c in
-    let r = k in
-    let l = r in
-    let b = r.piece_at-piece in
-    let found = k.is_copy-copy in
-    let a = (start l.before.before.before.before.before.before.before.before.before.before).args in
-    let q = (start l.before.before.before.before.before.before.before.before.before.before).requires in
-    let xs = pieces l.before.before.before.before.before.before.before.before.before.before in
-    let i = l.loop-i.i in
-    let m = many l.before.before.before.before.before.before.before.before.before.before in
-    let v = within r.before.before.before.before.before.before.before.before in
-    let h : i < length xs = omega (arith, r.loop-i-test.true) in
+    let l = c.before.before.before.before.before.before.before.before.before.before in
+    let b = c.piece_at-piece in
+    let found = c.is_copy-copy in
+    let a = (start l).args in
+    let q = (start l).requires in
+    let xs = pieces l in
+    let i = c.loop-i.i in
+    let m = many l in
+    let v = within c.before.before.before.before.before.before.before.before in
+    let h : i < length xs = omega (arith, c.loop-i-test.true) in
     let copy =
-    copy-here b.result (take i xs) found.result (get_or l.loop-i.flagged i 0) (get_or l.loop-i.seen (b.result.number - 1) 0)
-    found.ensures (read_left (flags xs) a.flagged.now i (omega arith) l.loop-i.invariant.1 ∙ rw b.ensures (q.5.at i h).0)
-    (l.loop-i.invariant.4.at b.result.number v.0 v.1) in (
+    copy-here b.result (take i xs) found.result (get_or c.loop-i.flagged i 0) (get_or c.loop-i.seen (b.result.number - 1) 0)
+    found.ensures (read_left (flags xs) a.flagged.now i (omega arith) c.loop-i.invariant.1 ∙ rw b.ensures (q.5.at i h).0)
+    (c.loop-i.invariant.4.at b.result.number v.0 v.1) in (
       omega arith,
-      fill-next (flags xs) a.flagged.now i 0 (omega arith) (omega (arith, q.3)) l.loop-i.invariant.1
-          (flag-here xs i b.result l.loop-i.expected found.result h b.ensures copy l.loop-i.invariant.3 _
+      fill-next (flags xs) a.flagged.now i 0 (omega arith) (omega (arith, q.3)) c.loop-i.invariant.1
+          (flag-here xs i b.result c.loop-i.expected found.result h b.ensures copy c.loop-i.invariant.3 _
           c.flag_of.ensures),
-      fill-next (usable xs) a.used.now i 0 (omega arith) (omega (arith, q.4)) l.loop-i.invariant.2
-          (usable-here xs i b.result l.loop-i.expected found.result h b.ensures copy l.loop-i.invariant.3 _
-          (get_or l.loop-i.used i 0) c.usable_of.ensures
-          (read_left (usable xs) a.used.now i (omega arith) l.loop-i.invariant.2 ∙ rw b.ensures (q.5.at i h).1)),
-      expected-here xs i b.result l.loop-i.expected found.result h b.ensures copy l.loop-i.invariant.3 _
+      fill-next (usable xs) a.used.now i 0 (omega arith) (omega (arith, q.4)) c.loop-i.invariant.2
+          (usable-here xs i b.result c.loop-i.expected found.result h b.ensures copy c.loop-i.invariant.3 _
+          (get_or c.loop-i.used i 0) c.usable_of.ensures
+          (read_left (usable xs) a.used.now i (omega arith) c.loop-i.invariant.2 ∙ rw b.ensures (q.5.at i h).1)),
+      expected-here xs i b.result c.loop-i.expected found.result h b.ensures copy c.loop-i.invariant.3 _
           c.expected_after-next.ensures,
-      seen_next xs i _ b.result h b.ensures v.0 v.1 c.seen_after.ensures l.loop-i.invariant.4,
+      seen_next xs i _ b.result h b.ensures v.0 v.1 c.seen_after.ensures c.loop-i.invariant.4,
     )
 
 same_length : tie.Need-shape_of-flagged invariant-loop-i decreases-loop-i
@@ -179,13 +176,12 @@ same-length-2 c = kept-used c.before
 
 returns : tie.Need-returns invariant-loop-i decreases-loop-i
 returns c =
-    let l = c in
-    let m = many l.before in
-    let p = (start l.before).requires in (
-      fill_done (flags (pieces l.before)) (start l.before).args.flagged.now l.loop-i.i (omega arith) l.loop-i.invariant.1
-          ∙ over-all (flags (pieces l.before)) (start l.before).args.flagged.now (omega (arith, p.3)),
-      fill_done (usable (pieces l.before)) (start l.before).args.used.now l.loop-i.i (omega arith) l.loop-i.invariant.2
-          ∙ over-all (usable (pieces l.before)) (start l.before).args.used.now (omega (arith, p.4)),
+    let m = many c.before in
+    let p = (start c.before).requires in (
+      fill_done (flags (pieces c.before)) (start c.before).args.flagged.now c.loop-i.i (omega arith) c.loop-i.invariant.1
+          ∙ over-all (flags (pieces c.before)) (start c.before).args.flagged.now (omega (arith, p.3)),
+      fill_done (usable (pieces c.before)) (start c.before).args.used.now c.loop-i.i (omega arith) c.loop-i.invariant.2
+          ∙ over-all (usable (pieces c.before)) (start c.before).args.used.now (omega (arith, p.4)),
     )
 
 pub fill_flags_and_used_spec : {M : Type 1} → statement M

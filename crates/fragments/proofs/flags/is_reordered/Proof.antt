@@ -21,16 +21,14 @@ returns-2 c = rw (le-ltb _ _ c.if-piece-expected.false, lt-ltb _ _ c.if-piece-ex
 returns-3 : tie.Need-returns-then-piece-expected-3
 unfolding is_reordered_fragment
 returns-3 c =
-    let e = c in
-    let f = (first e.before.before.before).if-piece-expected.false in
-    rw (le-ltb _ _ f, le-ltb _ _ e.if-piece-expected-2.false, le-leb _ _ f, ne_eqb _ _ c.if-piece-expected-3.true)
+    let f = (first c.before.before.before).if-piece-expected.false in
+    rw (le-ltb _ _ f, le-ltb _ _ c.if-piece-expected-2.false, le-leb _ _ f, ne_eqb _ _ c.if-piece-expected-3.true)
 
 returns-4 : tie.Need-returns
 unfolding is_reordered_fragment
 returns-4 c =
-    let e = c in
-    let f = (first e.before.before.before.before.before).if-piece-expected.false in
-    rw (le-ltb _ _ f, le-ltb _ _ e.if-piece-expected-2.false, le-leb _ _ f, eq-eqb _ _ c.if-piece-expected-3.false)
+    let f = (first c.before.before.before.before.before).if-piece-expected.false in
+    rw (le-ltb _ _ f, le-ltb _ _ c.if-piece-expected-2.false, le-leb _ _ f, eq-eqb _ _ c.if-piece-expected-3.false)
 
 pub is_reordered_spec : {M : Type 1} → statement M
 is_reordered_spec = tie.close (tie.spec returns returns-2 returns-3 (λ c. search rules) returns-4)

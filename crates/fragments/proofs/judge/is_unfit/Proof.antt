@@ -22,27 +22,24 @@ returns-2 c = simp (sym c.is_whole.ensures ∙ c.if-is_whole.false, eq-eqb _ _ c
 returns-3 : tie.Need-returns-then-piece-eq0-2
 unfolding is_unfit
 returns-3 c =
-    let e = c in
-    let f = first e.before.before.before in
+    let f = first c.before.before.before in
     let w = sym f.is_whole.ensures ∙ f.if-is_whole.false in
-    rw (w, ne_eqb _ _ e.if-piece-eq0.false, eq-eqb _ _ c.if-piece-eq0-2.true, c.piece_end.ensures)
+    rw (w, ne_eqb _ _ c.if-piece-eq0.false, eq-eqb _ _ c.if-piece-eq0-2.true, c.piece_end.ensures)
 
 returns-4 : tie.Need-returns-then-piece-ne0
 unfolding is_unfit
 returns-4 c =
-    let e = c in
-    let f = first e.before.before.before.before in
+    let f = first c.before.before.before.before in
     let w = sym f.is_whole.ensures ∙ f.if-is_whole.false in
-    rw (w, ne_eqb _ _ e.if-piece-eq0.false, ne_eqb _ _ c.if-piece-eq0-2.false, ne_eqb _ _ c.if-piece-ne0.true)
+    rw (w, ne_eqb _ _ c.if-piece-eq0.false, ne_eqb _ _ c.if-piece-eq0-2.false, ne_eqb _ _ c.if-piece-ne0.true)
 
 returns-5 : tie.Need-returns
 unfolding is_unfit
 returns-5 c =
-    let e = c in
-    let f = first e.before.before.before.before.before in
+    let f = first c.before.before.before.before.before in
     let w = sym f.is_whole.ensures ∙ f.if-is_whole.false in
     let m = ne_eqb _ _ c.if-piece-eq0-2.false in
-    rw (w, ne_eqb _ _ e.if-piece-eq0.false, m, eq-eqb _ _ c.if-piece-ne0.false, c.piece_end-2.ensures)
+    rw (w, ne_eqb _ _ c.if-piece-eq0.false, m, eq-eqb _ _ c.if-piece-ne0.false, c.piece_end-2.ensures)
 
 pub is_unfit_spec : {M : Type 1} → statement M
 is_unfit_spec =

@@ -59,23 +59,23 @@ loop-holds c =
 
 returns : tie.Need-returns-then-refusal-ne0 invariant-loop-i decreases-loop-i
 returns c =
-    let l = c in
+    let l = c.before.before.before.before in
     let b = c.piece_at-piece in
-    let m = many l.before.before.before.before in
-    turn-stop (refusals l.before.before.before.before) l.loop-i.i l.loop-i.invariant.2 0 (omega arith)
-    (refusal-here (pieces l.before.before.before.before) l.loop-i.reference l.loop-i.i b.result (omega arith) b.ensures l.loop-i.invariant.1 _ _
+    let m = many l in
+    turn-stop (refusals l) c.loop-i.i c.loop-i.invariant.2 0 (omega arith)
+    (refusal-here (pieces l) c.loop-i.reference c.loop-i.i b.result (omega arith) b.ensures c.loop-i.invariant.1 _ _
     c.judge_piece-refusal.ensures) c.if-refusal-ne0.true
 
 loop-again : tie.Need-loop-i-preserved invariant-loop-i decreases-loop-i
 loop-again c =
-    let l = c in
+    let l = c.before.before.before.before.before in
     let b = c.piece_at-piece in
-    let m = many l.before.before.before.before.before in
-    let h : l.loop-i.i < length (pieces l.before.before.before.before.before) = omega arith in (
+    let m = many l in
+    let h : c.loop-i.i < length (pieces l) = omega arith in (
       search rules,
-      past_next (pieces l.before.before.before.before.before) l.loop-i.reference l.loop-i.i b.result h b.ensures l.loop-i.invariant.1 _ c.next_reference-reference.ensures,
-      turn-next (refusals l.before.before.before.before.before) l.loop-i.i l.loop-i.invariant.2 0 (omega arith)
-          (refusal-here (pieces l.before.before.before.before.before) l.loop-i.reference l.loop-i.i b.result h b.ensures l.loop-i.invariant.1 _ _
+      past_next (pieces l) c.loop-i.reference c.loop-i.i b.result h b.ensures c.loop-i.invariant.1 _ c.next_reference-reference.ensures,
+      turn-next (refusals l) c.loop-i.i c.loop-i.invariant.2 0 (omega arith)
+          (refusal-here (pieces l) c.loop-i.reference c.loop-i.i b.result h b.ensures c.loop-i.invariant.1 _ _
           c.judge_piece-refusal.ensures) c.if-refusal-ne0.false,
     )
 

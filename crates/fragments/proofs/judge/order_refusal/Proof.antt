@@ -28,10 +28,9 @@ fit : (c : tie.Else-not-same_lengths) → let a = (start (sent-at c)).args in
     (outside 1 sent_most a.k ≡ false) × (outside 0 arrivals_most n ≡ false)
     × (same_lengths n (length a.times.now) (length a.lengths.now) (length a.mores.now) (length a.offsets.now) ≡ true)
 fit c =
-    let k = sent-at c in
-    let m = c in (
+    let k = sent-at c in (
       sym k.outside.ensures ∙ k.if-outside.false,
-      sym m.outside-2.ensures ∙ m.if-outside-2.false,
+      sym c.outside-2.ensures ∙ c.if-outside-2.false,
       sym c.same_lengths.ensures ∙ c.if-not-same_lengths.false,
     )
 
@@ -50,10 +49,8 @@ returns-2 c =
 returns-3 : tie.Need-returns-then-not-same_lengths
 unfolding order_refusal
 returns-3 c =
-    let m = c in
-    let k = m in
-    let s = sym k.outside.ensures ∙ k.if-outside.false in
-    rw (s, sym m.outside-2.ensures ∙ m.if-outside-2.false, sym c.same_lengths.ensures ∙ c.if-not-same_lengths.true)
+    let s = sym c.outside.ensures ∙ c.if-outside.false in
+    rw (s, sym c.outside-2.ensures ∙ c.if-outside-2.false, sym c.same_lengths.ensures ∙ c.if-not-same_lengths.true)
 
 judge-pieces-requires : tie.Need-judge_pieces-refusal-requires
 judge-pieces-requires c κs =
@@ -64,9 +61,8 @@ returns-4 : tie.Need-returns-then-refusal-ne0
 unfolding order_refusal
 returns-4 c =
     let j = c.judge_pieces-refusal in
-    let p = c in
-    let f = fit p.before.before in
-    let a = (start (sent-at p.before.before)).args in
+    let f = fit c.before.before in
+    let a = (start (sent-at c.before.before)).args in
     let n = length a.numbers.now in
     rw (f.0, f.1, f.2, sym j.ensures)
     (first-stop j.result
@@ -75,27 +71,21 @@ returns-4 c =
 returns-5 : tie.Need-returns-then-flagroom-numbers
 unfolding order_refusal
 returns-5 c =
-    let e = c in
-    let p = e in
-    let f = fit p.before.before.before in
-    rw (f.0, f.1, f.2, sym e.judge_pieces-refusal.ensures ∙ e.if-refusal-ne0.false, lt-ltb _ _ c.if-flagroom-numbers.true)
+    let f = fit c.before.before.before in
+    rw (f.0, f.1, f.2, sym c.judge_pieces-refusal.ensures ∙ c.if-refusal-ne0.false, lt-ltb _ _ c.if-flagroom-numbers.true)
 
 returns-6 : tie.Need-returns-then-usedroom-numbers
 unfolding order_refusal
 returns-6 c =
-    let e = c in
-    let p = e in
-    let f = fit p.before.before.before.before in
-    let j = sym e.judge_pieces-refusal.ensures ∙ e.if-refusal-ne0.false in
+    let f = fit c.before.before.before.before in
+    let j = sym c.judge_pieces-refusal.ensures ∙ c.if-refusal-ne0.false in
     rw (f.0, f.1, f.2, j, le-ltb _ _ c.if-flagroom-numbers.false, lt-ltb _ _ c.if-usedroom-numbers.true)
 
 returns-7 : tie.Need-returns
 unfolding order_refusal
 returns-7 c =
-    let e = c in
-    let p = e in
-    let f = fit p.before.before.before.before in
-    let j = sym e.judge_pieces-refusal.ensures ∙ e.if-refusal-ne0.false in
+    let f = fit c.before.before.before.before in
+    let j = sym c.judge_pieces-refusal.ensures ∙ c.if-refusal-ne0.false in
     rw (f.0, f.1, f.2, j, le-ltb _ _ c.if-flagroom-numbers.false, le-ltb _ _ c.if-usedroom-numbers.false)
 
 pub order_refusal_spec : {M : Type 1} → statement M

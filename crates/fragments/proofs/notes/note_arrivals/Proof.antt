@@ -74,20 +74,18 @@ sum-counts-requires c κs =
 
 fill-places-requires : tie.Need-fill_places-requires
 fill-places-requires c κs =
-    let m = c in
-    let n = counted-at m.before.before.before.before in
+    let n = counted-at c.before.before.before.before in
     let s = counting n.before in (
-      subst (λ (j : ℕ). NumbersWithin j s.args.numbers.now) (sym (summed m.before.before.before.before)) s.requires.2,
+      subst (λ (j : ℕ). NumbersWithin j s.args.numbers.now) (sym (summed c.before.before.before.before)) s.requires.2,
       s.requires.3,
       many _ s.requires.3,
-      starts _ _ _ m.sum_counts.auto.counts n.count_packets.ensures m.sum_counts.ensures,
+      starts _ _ _ c.sum_counts.auto.counts n.count_packets.ensures c.sum_counts.ensures,
     )
 
 note-packets-requires : tie.Need-note_packets-requires
 note-packets-requires c κs =
-    let p = c in
-    let f = p.fill_places in
-    let m = summed_at p.before.before.before.before.before.before in
+    let f = c.fill_places in
+    let m = summed_at c.before.before.before.before.before.before in
     let s = counting (counted-at m).before in
     let e = f.auto.starts ∙ summed m in (
       s.requires.1,

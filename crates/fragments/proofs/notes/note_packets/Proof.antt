@@ -60,10 +60,9 @@ end c =
 between : (c : tie.After-index_of-to invariant-loop-p decreases-loop-p) → (c.loop-p.from ≤ c.index_of-to.result)
     × (c.index_of-to.result ≤ length c.loop-p.places)
 between c =
-    let l = c in
     let b =
-    block_inside _ _ l.loop-p.p c.loop-p-test.true l.loop-p.from c.index_of-to.result l.loop-p.invariant.1 (end c)
-    l.loop-p.places l.loop-p.invariant.2 in
+    block_inside _ _ c.loop-p.p c.loop-p-test.true c.loop-p.from c.index_of-to.result c.loop-p.invariant.1 (end c)
+    c.loop-p.places c.loop-p.invariant.2 in
     (b.0, b.1.0)
 
 none : (ns : List ℕ) → 0 ≡ arrivals_to ns 0
@@ -91,22 +90,20 @@ many : (c : tie.After-index_of-to invariant-loop-p decreases-loop-p) → let l =
     c in length (take (c.index_of-to.result - l.loop-p.from) (drop l.loop-p.from l.loop-p.places))
     ≡ c.index_of-to.result - l.loop-p.from
 many c =
-    let l = c in
-    block-length _ _ l.loop-p.p c.loop-p-test.true l.loop-p.from c.index_of-to.result l.loop-p.invariant.1 (end c)
-    l.loop-p.places l.loop-p.invariant.2
+    block-length _ _ c.loop-p.p c.loop-p-test.true c.loop-p.from c.index_of-to.result c.loop-p.invariant.1 (end c)
+    c.loop-p.places c.loop-p.invariant.2
 
 put-in-order-requires : tie.Need-put_in_order-requires invariant-loop-p decreases-loop-p
 put-in-order-requires c κs =
-    let l = c in
-    let q = (start l.before.before.before.before.before.before).requires in (
+    let q = (start c.before.before.before.before.before.before).requires in (
       q.0.1 ∙ sym q.0.3,
       omega (
         arith,
         many c.before.before.before,
         between c.before.before.before,
-        l.loop-p.invariant.2.room,
+        c.loop-p.invariant.2.room,
         q.3,
-        l.loop-p.invariant.4,
+        c.loop-p.invariant.4,
       ),
     )
 
@@ -115,15 +112,14 @@ run-here : (c : tie.After-put_in_order invariant-loop-p decreases-loop-p) → le
     c.before.before.before.before.before.before.before in Run (pieces (start l)) (l.loop-p.p + 1) c.put_in_order.new.places
 run-here c =
     let i = c in
-    let l = c in
-    let a = (start l.before.before.before.before.before.before.before).args in
-    let e : take (i.index_of-to.result - l.loop-p.from) (drop l.loop-p.from l.loop-p.places)
-    ≡ places_of a.numbers.now (l.loop-p.p + 1) =
-    block_same _ _ l.loop-p.p i.loop-p-test.true l.loop-p.from i.index_of-to.result l.loop-p.invariant.1 (end i.before.before.before.before)
-    l.loop-p.places l.loop-p.invariant.2 ∙ ap (places_of a.numbers.now) (sym (add-one l.loop-p.p)) in
+    let a = (start c.before.before.before.before.before.before.before).args in
+    let e : take (i.index_of-to.result - c.loop-p.from) (drop c.loop-p.from c.loop-p.places)
+    ≡ places_of a.numbers.now (c.loop-p.p + 1) =
+    block_same _ _ c.loop-p.p i.loop-p-test.true c.loop-p.from i.index_of-to.result c.loop-p.invariant.1 (end i.before.before.before.before)
+    c.loop-p.places c.loop-p.invariant.2 ∙ ap (places_of a.numbers.now) (sym (add-one c.loop-p.p)) in
     run_of a.numbers.now a.times.now a.lengths.now a.mores.now a.offsets.now
-    (record { at = λ i. omega (arith, l.shared_slice_known-3-1.given i) })
-    (l.loop-p.p + 1) c.put_in_order.new.places
+    (record { at = λ i. omega (arith, c.shared_slice_known-3-1.given i) })
+    (c.loop-p.p + 1) c.put_in_order.new.places
     (subst (λ (m : List ℕ). InOrder (piece_key a.lengths.now a.offsets.now) m c.put_in_order.new.places) e
     c.put_in_order.ensures)
 
@@ -137,15 +133,13 @@ loop-again : tie.Need-loop-p-preserved invariant-loop-p decreases-loop-p
 loop-again c =
     let p = sorted (noted c) in
     let i = ended p in
-    let b = i in
-    let l = b in
-    let ns = (start l.before.before.before).args.numbers.now in (
-      omega (arith, b.loop-p-test.true),
-      end i ∙ ap (arrivals_to ns) (sym (add-one l.loop-p.p)),
-      placed-next _ _ l.loop-p.p b.loop-p-test.true l.loop-p.from i.index_of-to.result l.loop-p.invariant.1 (end i) l.loop-p.places
-          l.loop-p.invariant.2 p.put_in_order.new.places p.put_in_order.auto.places,
+    let ns = (start i.before.before.before).args.numbers.now in (
+      omega (arith, i.loop-p-test.true),
+      end i ∙ ap (arrivals_to ns) (sym (add-one i.loop-p.p)),
+      placed-next _ _ i.loop-p.p i.loop-p-test.true i.loop-p.from i.index_of-to.result i.loop-p.invariant.1 (end i) i.loop-p.places
+          i.loop-p.invariant.2 p.put_in_order.new.places p.put_in_order.auto.places,
       (noted c).note_run.ensures,
-      p.put_in_order.auto.spare ∙ l.loop-p.invariant.4,
+      p.put_in_order.auto.spare ∙ i.loop-p.invariant.4,
     )
 
 -- the lists keep their lengths
@@ -154,9 +148,8 @@ counted s = let a = s.args in pieces-length a.numbers.now a.times.now a.lengths.
 
 returns : tie.Need-returns invariant-loop-p decreases-loop-p
 returns c =
-    let l = c in
-    let s = start l.before in
-    record { at = λ i h. l.loop-p.invariant.3.at i h (omega (arith, (piece-within _ _ _ _ _ _ s.requires.1 i h).1, c.loop-p-test.false)) }
+    let s = start c.before in
+    record { at = λ i h. c.loop-p.invariant.3.at i h (omega (arith, (piece-within _ _ _ _ _ _ s.requires.1 i h).1, c.loop-p-test.false)) }
 
 pub note_packets_spec : {M : Type 1} → statement M
 note_packets_spec =
@@ -180,5 +173,5 @@ note_packets_spec =
     loop-again
     (λ c. let l = c in l.loop-p.invariant.2.room ∙ sym (start l.before).requires.4)
     (λ c. let l = c in l.loop-p.invariant.3.of_marks ∙ counted (start l.before) ∙ sym (start l.before).requires.6)
-    (λ c. let l = c in l.loop-p.invariant.3.of_wholes ∙ counted (start l.before) ∙ sym (start l.before).requires.7)
+    (λ c. c.loop-p.invariant.3.of_wholes ∙ counted (start c.before) ∙ sym (start c.before).requires.7)
     returns)

@@ -81,9 +81,7 @@ next-mark l y z v last key before e q d k n =
 
 returns : tie.Need-returns-then-run-eq0 invariant-loop-m decreases-loop-m
 returns c =
-    let k = c in
-    let s = k in
-    noting-done _ _ _ s.requires.1 0 (omega (arith, c.if-run-eq0.true)) (noting-start _ _ _ s.requires.2)
+    noting-done _ _ _ c.requires.1 0 (omega (arith, c.if-run-eq0.true)) (noting-start _ _ _ c.requires.2)
 
 loop-holds : tie.Need-loop-m-init invariant-loop-m decreases-loop-m
 loop-holds c =
@@ -101,27 +99,25 @@ loop-holds c =
 
 loop-again : tie.Need-loop-m-preserved invariant-loop-m decreases-loop-m
 loop-again c =
-    let b = c in
-    let l = b in
-    let s = start l.before.before.before.before.before.before.before in
+    let s = start c.before.before.before.before.before.before.before in
     let a = s.args in
     let w = s.requires.1 in
     let e = c.index_of-i.ensures in
-    let h = b.loop-m-test.true in
+    let h = c.loop-m-test.true in
     let k =
     key_here a.numbers.now a.times.now a.lengths.now a.mores.now a.offsets.now _ _ c.key_of-key.result
-    (inside s l.loop-m.m h) e c.key_of-key.ensures in
-    let z : l.loop-m.m ≡ l.loop-m.m + 1 - 1 = omega arith in (
+    (inside s c.loop-m.m h) e c.key_of-key.ensures in
+    let z : c.loop-m.m ≡ c.loop-m.m + 1 - 1 = omega arith in (
       omega arith,
-      noting-next _ _ _ w l.loop-m.m c.index_of-i.result c.bit.result
-          l.bit-whole.result h e
-          (next-mark (pieces s) _ _ _ _ _ _ e c.bit.ensures l.loop-m.invariant.2 k (w.next l.loop-m.m l.loop-m.invariant.0 h))
-          (whole_here l.before.before.before.before.before.before.before.before) l.loop-m.invariant.1,
+      noting-next _ _ _ w c.loop-m.m c.index_of-i.result c.bit.result
+          c.bit-whole.result h e
+          (next-mark (pieces s) _ _ _ _ _ _ e c.bit.ensures c.loop-m.invariant.2 k (w.next c.loop-m.m c.loop-m.invariant.0 h))
+          (whole_here c.before.before.before.before.before.before.before.before) c.loop-m.invariant.1,
       k ∙ ap (λ (j : ℕ). key_of (get_or (pieces s) (get_or a.run.now j 0) no_piece)) z,
     )
 
 returns-2 : tie.Need-returns invariant-loop-m decreases-loop-m
-returns-2 c = let l = c in noting-done _ _ _ (start l.before).requires.1 l.loop-m.m c.loop-m-test.false l.loop-m.invariant.1
+returns-2 c = noting-done _ _ _ (start c.before).requires.1 c.loop-m.m c.loop-m-test.false c.loop-m.invariant.1
 
 pub note_run_spec : {M : Type 1} → statement M
 note_run_spec =
@@ -214,5 +210,5 @@ note_run_spec =
     (λ c. omega (arith, c.loop-m-test.true))
     loop-again
     (λ c. let l = c in l.loop-m.invariant.1.of_marks ∙ sym (start l.before).requires.2.of_marks)
-    (λ c. let l = c in l.loop-m.invariant.1.of_wholes ∙ sym (start l.before).requires.2.of_wholes)
+    (λ c. c.loop-m.invariant.1.of_wholes ∙ sym (start c.before).requires.2.of_wholes)
     returns-2)

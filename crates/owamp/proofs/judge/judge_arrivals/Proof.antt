@@ -26,23 +26,20 @@ add-arrivals c = omega (arith, (head c).loop-i.invariant.few)
 
 loop-again : tie.Need-loop-i-preserved-then-time-ne0 invariant-loop-i decreases-loop-i
 loop-again c =
-    let t = c in
-    let l = head t.before.before in
+    let l = head c.before.before in
     let a = l.args in
-    judging-next a.k a.records.now l.loop-i.invariant (search rules) (λ z. t.if-time-ne0.true (t.time_of-time.ensures ∙ z))
-    t.number_of-number.ensures c.judge_number.ensures c.first_of-refusal.ensures
+    judging-next a.k a.records.now l.loop-i.invariant (search rules) (λ z. c.if-time-ne0.true (c.time_of-time.ensures ∙ z))
+    c.number_of-number.ensures c.judge_number.ensures c.first_of-refusal.ensures
 
 loop-again-2 : tie.Need-loop-i-preserved invariant-loop-i decreases-loop-i
 loop-again-2 c =
-    let l = c in
-    let a = l.args in
-    judging-lost a.k a.records.now l.loop-i.invariant (search rules) (sym c.time_of-time.ensures ∙ c.if-time-ne0.false)
+    let a = c.args in
+    judging-lost a.k a.records.now c.loop-i.invariant (search rules) (sym c.time_of-time.ensures ∙ c.if-time-ne0.false)
 
 returns : tie.Need-returns invariant-loop-i decreases-loop-i
 returns c =
-    let l = c in
-    let a = l.args in
-    judging-done a.k a.records.now l.loop-i.invariant (search rules)
+    let a = c.args in
+    judging-done a.k a.records.now c.loop-i.invariant (search rules)
 
 pub judge_arrivals_spec : {M : Type 1} → statement M
 judge_arrivals_spec =

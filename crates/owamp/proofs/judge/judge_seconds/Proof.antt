@@ -68,18 +68,16 @@ decreases-loop-i file found count greatest₀ i₀ greatest i = count - i
 -- as many as the layout says
 many : (c : tie.At-loop-i invariant-loop-i decreases-loop-i) → let a = c.args in length (refusals a.file.now) ≡ a.layout.arrivals
 many c =
-    let a = c in
-    length-map (arrivals_of_file a.args.file.now) judge_arrival ∙ sym (found-many a.args.file.now a.args.layout a.requires.0)
+    length-map (arrivals_of_file c.args.file.now) judge_arrival ∙ sym (found-many c.args.file.now c.args.layout c.requires.0)
 
 -- the one at i is that of the arrival that was read
 found : (c : tie.After-arrival invariant-loop-i decreases-loop-i)
     → judge_arrival c.arrival.result ≡ get_or (refusals c.args.file.now)
     c.loop-i.i (judge_arrival no_arrival)
 found c =
-    let a = c in
     let i = c.loop-i.i in
-    ap judge_arrival (c.arrival.ensures.1 a.requires.0 (search rules))
-    ∙ sym (get_or-map judge_arrival (arrivals_of_file a.args.file.now) i no_arrival)
+    ap judge_arrival (c.arrival.ensures.1 c.requires.0 (search rules))
+    ∙ sym (get_or-map judge_arrival (arrivals_of_file c.args.file.now) i no_arrival)
 
 loop-holds : tie.Need-loop-i-init invariant-loop-i decreases-loop-i
 unfolding judge_time
@@ -87,13 +85,12 @@ loop-holds c = (search rules, refl)
 
 loop-again : tie.Need-loop-i-preserved invariant-loop-i decreases-loop-i
 loop-again c =
-    let l = c in
-    let rs = refusals l.args.file.now in
-    let i = l.loop-i.i in
-    let g = l.loop-i.greatest in
-    let h : i < length rs = omega (arith, many l.before.before.before, c.loop-i-test.true) in (
+    let rs = refusals c.args.file.now in
+    let i = c.loop-i.i in
+    let g = c.loop-i.greatest in
+    let h : i < length rs = omega (arith, many c.before.before.before, c.loop-i-test.true) in (
       search rules,
-      l.loop-i.invariant.1
+      c.loop-i.invariant.1
           ∙ ap (λ (x : List ℕ). first_refusal (judge_time g ∷ x))
           (drop-cons rs i (judge_arrival no_arrival) h ∙ ap (λ (x : ℕ). x ∷ drop (suc i) rs) (sym (found c.before)))
           ∙ greater g c.arrival.result.time (drop (suc i) rs)
@@ -104,12 +101,11 @@ loop-again c =
 returns : tie.Need-returns invariant-loop-i decreases-loop-i
 unfolding judge_seconds
 returns c =
-    let l = c in
-    let rs = refusals l.args.file.now in
-    let h : length rs ≤ l.loop-i.i = omega (arith, many l.before.before, c.loop-i-test.false) in
+    let rs = refusals c.args.file.now in
+    let h : length rs ≤ c.loop-i.i = omega (arith, many c.before.before, c.loop-i-test.false) in
     c.judge_time.ensures
-    ∙ sym (l.loop-i.invariant.1 ∙ ap (λ (x : List ℕ). first_refusal (judge_time l.loop-i.greatest ∷ x)) (drop_of_length-le rs h)
-    ∙ first_one (judge_time l.loop-i.greatest))
+    ∙ sym (c.loop-i.invariant.1 ∙ ap (λ (x : List ℕ). first_refusal (judge_time c.loop-i.greatest ∷ x)) (drop_of_length-le rs h)
+    ∙ first_one (judge_time c.loop-i.greatest))
 
 pub judge_seconds_spec : {M : Type 1} → statement M
 judge_seconds_spec =

@@ -26,25 +26,23 @@ returns-2 c =
 returns-3 : tie.Need-returns-then-outside-2
 unfolding records_refusal
 returns-3 c =
-    let a = c in
     let h = sym c.outside.ensures ∙ c.if-outside.false in
-    let g : outside 0 arrivals_most (length (records_arrivals a.args.records.now)) ≡ true =
-    ap (outside 0 arrivals_most) (sym a.requires.0) ∙ sym c.outside-2.ensures ∙ c.if-outside-2.true in
+    let g : outside 0 arrivals_most (length (records_arrivals c.args.records.now)) ≡ true =
+    ap (outside 0 arrivals_most) (sym c.requires.0) ∙ sym c.outside-2.ensures ∙ c.if-outside-2.true in
     simp (eq-eqb _ _ c.if-records-ne0.false, h, g)
 
 returns-4 : tie.Need-returns
 unfolding records_refusal
 returns-4 c =
-    let a = c in
     let h = sym c.outside.ensures ∙ c.if-outside.false in
-    let g : outside 0 arrivals_most (length (records_arrivals a.args.records.now)) ≡ false =
-    ap (outside 0 arrivals_most) (sym a.requires.0) ∙ sym c.outside-2.ensures ∙ c.if-outside-2.false in
+    let g : outside 0 arrivals_most (length (records_arrivals c.args.records.now)) ≡ false =
+    ap (outside 0 arrivals_most) (sym c.requires.0) ∙ sym c.outside-2.ensures ∙ c.if-outside-2.false in
     simp (
       eq-eqb _ _ c.if-records-ne0.false,
       h,
       g,
-      first_one (judge_numbers a.args.k (records_arrivals a.args.records.now)),
-    ) a.requires.1
+      first_one (judge_numbers c.args.k (records_arrivals c.args.records.now)),
+    ) c.requires.1
 
 pub records_refusal_spec : {M : Type 1} → statement M
 records_refusal_spec =
