@@ -57,7 +57,7 @@ over_line n = between (ascii "    over 100: ") n (ascii "\n")
 unfoldable pub runs_line : (closed squares current : ℕ) → List ℕ
 runs_line closed squares current =
     joined
-    (between (ascii "\n_runs in order: ") closed (ascii " ended, the sum of their squares ")
+    (between (ascii "\nRuns in order: ") closed (ascii " ended, the sum of their squares ")
     ∷ between [] squares (ascii ", packets in the open one ")
     ∷ between [] current (ascii "\n")
     ∷ [])
@@ -66,7 +66,7 @@ runs_line closed squares current =
 unfoldable pub count_lines : List Answer → List ℕ
 count_lines l =
     joined
-    (section (ascii "\n_extents, and how many packets have each:\n") Kind.Extent l 100
+    (section (ascii "\nExtents, and how many packets have each:\n") Kind.Extent l 100
     ∷ over_line (get_or (tally l) 0 0)
     ∷ section (ascii "\nn, and how many packets are n-reordered:\n") Kind.Degree l 10
     ∷ [])
@@ -78,7 +78,7 @@ unfoldable pub more_text : List Answer → ℕ → List ℕ
 more_text l records =
     joined
     (count_lines l
-    ∷ section (ascii "\n_records that have a gap, and the gap in positions:\n") Kind.Gap l records
+    ∷ section (ascii "\nRecords that have a gap, and the gap in positions:\n") Kind.Gap l records
     ∷ runs_line (runs l).closed (runs l).squares (runs l).current
     ∷ [])
 

@@ -83,9 +83,9 @@ row_lines l =
 unfoldable pub needs_lines : List Answer → List ℕ
 needs_lines l =
     joined
-    (ascii "\n_a receiver that puts the packets back in order needs, for this share of those that arrived:\n\n    share    waiting time    packets held    octets held\n"
+    (ascii "\nA receiver that puts the packets back in order needs, for this share of those that arrived:\n\n    share    waiting time    packets held    octets held\n"
     ∷ row_lines l
-    ∷ ascii "\n_packets held is an extent, which can be more than a receiver has to hold. Packets that never arrived are not counted.\n"
+    ∷ ascii "\nPackets held is an extent, which can be more than a receiver has to hold. Packets that never arrived are not counted.\n"
     ∷ [])
 
 -- a line, if b
@@ -104,7 +104,7 @@ limit_lines lost back =
 unfoldable pub ratio_lines : (reordered reordered1 reordered3 arrived : ℕ) → List ℕ
 ratio_lines reordered reordered1 reordered3 arrived =
     joined
-    (share_line (ascii "\n_reordered (late): ") reordered arrived
+    (share_line (ascii "\nReordered (late): ") reordered arrived
     ∷ share_line (ascii "1-reordered: ") reordered1 arrived
     ∷ share_line (ascii "3-reordered: ") reordered3 arrived
     ∷ [])

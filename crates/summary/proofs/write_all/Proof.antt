@@ -40,23 +40,23 @@ abbrev tally-at : tie.After-record_gaps → tie.After-tally
 tally-at g = g.before.before.before.before
 
 abbrev text_at : tie.After-record_gaps → tie.After-write_text-n
-text_at g = (tally-at g)
+text_at g = (tally-at g).before.before
 
 abbrev check-at : tie.After-record_gaps → tie.After-check-layout
-check-at g = (text_at g)
+check-at g = (text_at g).before.before
 
 abbrev file-at : tie.After-check-layout → List ℕ
 file-at y = y.args.file.now
 
 abbrev gaps-at : tie.After-struct_known-1 → tie.After-record_gaps
-gaps-at c = (counts-at c)
+gaps-at c = (counts-at c).before.before
 
 abbrev known_at : tie.After-gaps-3-1 → tie.After-struct_known-1
 known_at c = c.before.before.before.before.before
 
 -- the file is laid out
 layout-known : (y : tie.After-check-layout) → FileLayout (decode (file-at y)) y.check-layout.result
-layout-known y = rw y.check-layout.ensures.0 (laid _ (λ i. (y.shared_slice_known-1.given i).fits))
+layout-known y = simp y.check-layout.ensures.0 (laid _ (λ i. (y.shared_slice_known-1.given i).fits))
 
 -- the tally has 101 places
 places : (g : tie.After-record_gaps) → length (tally-at g).tally.result.tally ≡ 101

@@ -44,7 +44,7 @@ returns c =
       reordered = (numbers i).reordered;
       reordered1 = several d 1 first.n_reordered-first.result (omega arith) (omega arith) first.n_reordered-first.ensures i;
       reordered3 = several d 3 third.n_reordered-third.result (omega arith) (omega arith) third.n_reordered-third.ensures i;
-      disorder = disordered d total.total.result total.total.ensures.0 i;
+      disorder = disordered d total.total-disorder.result total.total-disorder.ensures.0 i;
       lost = ltb (arrived i) (sent i);
       back = back.steps_back-back.ensures i;
     }

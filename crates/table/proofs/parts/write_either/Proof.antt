@@ -6,18 +6,18 @@ use borrow.Author.Rules.{rules}
 use Rattle.table.proofs.parts.write_either.Statement.{statement}
 use Rattle.table.proofs.parts.write_either.Tie as tie
 
-returns : tie.Need-returns
+returns : tie.Need-returns-then-json
 returns c =
-    let w = c.before.before.write_word.ensures in
-    (named (in-json _ _ c.before.before.before.before.if1.true) w.0, omega (arith, w.1))
+    let w = c.write_word.ensures in
+    (named (in-json _ _ c.if-json.true) w.0, omega (arith, w.1))
 
-returns-2 : tie.Need-returns-2
+returns-2 : tie.Need-returns
 returns-2 c =
-    let w = c.before.before.write-word2.ensures in
-    (named (in-csv _ _ c.before.before.before.before.if1.false) w.0, omega (arith, w.1))
+    let w = c.write_word-2.ensures in
+    (named (in-csv _ _ c.if-json.false) w.0, omega (arith, w.1))
 
-pub write-either-spec : {M : Type 1} → statement M
-write-either-spec =
+pub write_either_spec : {M : Type 1} → statement M
+write_either_spec =
     tie.close
     (tie.spec
     (λ c κs. search rules) (λ c. search rules) returns (λ c κs. search rules) (λ c. search rules) returns-2)

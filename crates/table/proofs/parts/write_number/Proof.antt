@@ -11,20 +11,20 @@ use Rattle.table.proofs.parts.write_number.Statement.{statement}
 use Rattle.table.proofs.parts.write_number.Tie as tie
 
 -- at most 20 digits
-few : (c : tie.After-slice-known2) → length (decimal_of c.before.before.before.before.before.args.number) ≤ 20
-few c = at-most-20 c.before.before.before.before.before.args.number (omega arith)
+few : (c : tie.After-slice_known-2-1) → length (decimal_of c.args.number) ≤ 20
+few c = at-most-20 c.args.number (omega arith)
 
-add-result : tie.Need-overflow-add-result
-add-result c = omega (arith, c.before.before.put-decimal.ensures.0, few c)
+add-result : tie.Need-overflow_add-result
+add-result c = omega (arith, c.put_decimal.ensures.0, few c)
 
 returns : tie.Need-returns
 returns c =
-    let a = c.before.before.before.before.before.args in
-    let digits = c.before.before.put-decimal.ensures in
+    let a = c.args in
+    let digits = c.put_decimal.ensures in
     rw (digits.0, digits.1) (part-put a.at (decimal_of a.number) a.out.now (omega (arith, few c)), omega (arith, few c))
 
-pub write-number-spec : {M : Type 1} → statement M
-write-number-spec =
+pub write_number_spec : {M : Type 1} → statement M
+write_number_spec =
     tie.close
     (tie.spec
     (λ c κs. search rules) add-result (λ c. search rules) returns)

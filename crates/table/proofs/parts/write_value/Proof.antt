@@ -7,12 +7,12 @@ use Rattle.table.proofs.parts.write_value.Tie as tie
 
 returns : tie.Need-returns
 returns c =
-    let v = c.before.before.write-number.ensures in
-    let w = c.before.before.before.before.before.before.write-either.ensures in
+    let v = c.write_number.ensures in
+    let w = c.write_either-digits.ensures in
     (then w.0 v.0, omega (arith, w.1, v.1))
 
-pub write-value-spec : {M : Type 1} → statement M
-write-value-spec =
+pub write_value_spec : {M : Type 1} → statement M
+write_value_spec =
     tie.close
     (tie.spec
     (λ c κs. search rules) (λ c κs. search rules) (λ c. search rules) returns)

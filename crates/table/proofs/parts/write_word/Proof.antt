@@ -7,11 +7,11 @@ use Rattle.table.proofs.parts.write_word.Tie as tie
 
 returns : tie.Need-returns
 returns c =
-    let a = c.before.before.before.before.before.before.args in
-    rw c.before.before.put-octets.ensures (part-put a.at a.word.now a.out.now (search rules), omega arith)
+    let a = c.args in
+    rw c.put_octets.ensures (part-put a.at a.word.now a.out.now (search rules), omega arith)
 
-pub write-word-spec : {M : Type 1} → statement M
-write-word-spec =
+pub write_word_spec : {M : Type 1} → statement M
+write_word_spec =
     tie.close
     (tie.spec
     (λ c κs. search rules) (λ c. search rules) (λ c. search rules) returns)

@@ -7,24 +7,24 @@ use borrow.Author.Rules.{rules}
 use Rattle.table.proofs.records.write_answer.Statement.{statement}
 use Rattle.table.proofs.records.write_answer.Tie as tie
 
-returns : tie.Need-returns
+returns : tie.Need-returns-then-kind
 returns c =
-    let w = c.before.before.write-in-order.ensures in
-    (λ a h. named (in-order-row _ _ a h c.before.before.before.before.before.before.if1.true) w.0, omega (arith, w.1))
+    let w = c.write_in_order.ensures in
+    (λ a h. named (in-order-row _ _ a h c.if-kind.true) w.0, omega (arith, w.1))
 
-returns-2 : tie.Need-returns-2
+returns-2 : tie.Need-returns-then-kind-2
 returns-2 c =
-    let w = c.before.before.write-duplicate.ensures in
-    (λ a h. named (duplicate-row _ _ a h c.before.before.before.before.before.if2.true) w.0, omega (arith, w.1))
+    let w = c.write_duplicate.ensures in
+    (λ a h. named (duplicate-row _ _ a h c.if-kind-2.true) w.0, omega (arith, w.1))
 
-returns-3 : tie.Need-returns-3
+returns-3 : tie.Need-returns
 returns-3 c =
-    let w = c.before.before.write-reordered.ensures in
-    let second = c.before.before.before.before in
-    (λ a h. reordered-row _ _ _ _ _ _ a h second.before.if1.false second.if2.false w.0, w.1)
+    let w = c.write_reordered.ensures in
+    let second = c in
+    (λ a h. reordered-row _ _ _ _ _ _ a h second.if-kind.false second.if-kind-2.false w.0, w.1)
 
-pub write-answer-spec : {M : Type 1} → statement M
-write-answer-spec =
+pub write_answer_spec : {M : Type 1} → statement M
+write_answer_spec =
     tie.close
     (tie.spec
     (λ c. search rules) (λ c. search rules) (λ c. search rules) (λ c. search rules) (λ c κs. search rules) (λ c. search rules)

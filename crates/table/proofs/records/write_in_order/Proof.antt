@@ -9,11 +9,10 @@ use Rattle.table.proofs.records.write_in_order.Tie as tie
 returns : tie.Need-returns
 unfolding in_order_pieces
 returns c =
-    let e3 = c.before.before in
-    let e2 = e3.before.before.before.before.before.before in
-    let e1 = e2.before.before.before.before.before.before in
-    values-and-word e1.write-value.ensures e2.write-value2.ensures e3.write-either.ensures
+    let e3 = c in
+    let e2 = e3 in
+    let e1 = e2 in
+    values-and-word e1.write_value-one.ensures e2.write_value-two.ensures e3.write_either.ensures
 
-pub write-in-order-spec : {M : Type 1} → statement M
-write-in-order-spec = tie.close (tie.spec (λ c. search rules) (λ c. search rules) (λ c κs. search rules) (λ c. search rules) (λ c. search rules) (λ c κs. search rules)
-    (λ c. search rules) (λ c. search rules) (λ c κs. search rules) (λ c. search rules) returns)
+pub write_in_order_spec : {M : Type 1} → statement M
+write_in_order_spec = tie.close (tie.spec (λ c κs. search rules) (λ c κs. search rules) (λ c κs. search rules) (λ c. search rules) returns)

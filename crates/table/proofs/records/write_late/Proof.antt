@@ -7,29 +7,28 @@ use borrow.Author.Rules.{rules}
 use Rattle.table.proofs.records.write_late.Statement.{statement}
 use Rattle.table.proofs.records.write_late.Tie as tie
 
-returns : tie.Need-returns
+returns : tie.Need-returns-then-kind
 returns c =
-    let w = c.before.before.write-number.ensures in
-    (λ t e f. named (late-plain t e f c.before.before.before.before.if1.true) w.0, omega (arith, w.1))
+    let w = c.write_number.ensures in
+    (λ t e f. named (late-plain t e f c.if-kind.true) w.0, omega (arith, w.1))
 
-returns-2 : tie.Need-returns-2
+returns-2 : tie.Need-returns-then-amount-eq0
 returns-2 c =
-    let w = c.before.before.write-number2.ensures in
-    (λ t e f. named (late-zero t f c.before.before.before.before.if2.true) w.0, omega (arith, w.1))
+    let w = c.write_number-then-amount-eq0.ensures in
+    (λ t e f. named (late-zero t f c.if-amount-eq0.true) w.0, omega (arith, w.1))
 
-returns-3 : tie.Need-returns-3
+returns-3 : tie.Need-returns
 returns-3 c =
-    let v = c.before.before in
-    let w = v.before.before.before.before in
-    let second = w.before.before.before in (
-      λ t e f. named (late-minus t e f second.before.if1.false second.if2.false)
-          (then w.write_word.ensures.0 v.write-number3.ensures.0),
-      omega (arith, w.write_word.ensures.1, v.write-number3.ensures.1),
+    let v = c in
+    let w = v in
+    let second = w in (
+      λ t e f. named (late-minus t e f second.if-kind.false second.if-amount-eq0.false)
+          (then w.write_word-digits.ensures.0 v.write_number-2.ensures.0),
+      omega (arith, w.write_word-digits.ensures.1, v.write_number-2.ensures.1),
     )
 
-pub write-late-spec : {M : Type 1} → statement M
-write-late-spec =
+pub write_late_spec : {M : Type 1} → statement M
+write_late_spec =
     tie.close
     (tie.spec
-    (λ c. search rules) (λ c κs. search rules) (λ c. search rules) returns (λ c κs. search rules) (λ c. search rules) returns-2
-    (λ c. search rules) (λ c κs. search rules) (λ c κs. search rules) (λ c. search rules) returns-3)
+    (λ c. search rules) (λ c κs. search rules) (λ c. search rules) returns (λ c κs. search rules) (λ c. search rules) returns-2 (λ c κs. search rules) (λ c κs. search rules) (λ c. search rules) returns-3)

@@ -15,26 +15,25 @@ use Rattle.table.proofs.records.write_lateness.Tie as tie
 returns : tie.Need-returns
 unfolding lateness_pieces row_of
 returns c =
-    let e4 = c.before.before in
-    let e3 = e4.before.before.before.before.before.before in
-    let e2 = e3.before.before.before.before.before.before in
-    let e1 = e2.before.before.before.before.before.before.before in
-    let s = e1.before.before.before.before.before.before.before in
+    let e4 = c in
+    let e3 = e4 in
+    let e2 = e3 in
+    let e1 = e2 in
+    let s = e1 in
     let json = s.args.json in (
       λ f h.
           then (named (ap (λ (l : List ℕ). value json ",\"kind\":\"reordered\",\"position\":" ",reordered," (get_or l 1 0)) h)
-          e1.write-value.ensures.0)
-          (then (named (ap (λ (l : List ℕ). value json ",\"extent\":" ",," (get_or l 3 0)) h) e2.write-value2.ensures.0)
-          (then e3.write-either.ensures.0
-          (then (e4.write-late.ensures.0 f.late (ap (λ (l : List ℕ). get_or l 0 0) h) (ap (λ (l : List ℕ). get_or l 4 0) h))
+          e1.write_value-one.ensures.0)
+          (then (named (ap (λ (l : List ℕ). value json ",\"extent\":" ",," (get_or l 3 0)) h) e2.write_value-two.ensures.0)
+          (then e3.write_either-three.ensures.0
+          (then (e4.write_late.ensures.0 f.late (ap (λ (l : List ℕ). get_or l 0 0) h) (ap (λ (l : List ℕ). get_or l 4 0) h))
           (nothing _ _)))),
-      omega (arith, e1.write-value.ensures.1, e2.write-value2.ensures.1, e3.write-either.ensures.1, e4.write-late.ensures.1),
+      omega (arith, e1.write_value-one.ensures.1, e2.write_value-two.ensures.1, e3.write_either-three.ensures.1, e4.write_late.ensures.1),
     )
 
-pub write-lateness-spec : {M : Type 1} → statement M
-write-lateness-spec =
+pub write_lateness_spec : {M : Type 1} → statement M
+write_lateness_spec =
     tie.close
-    (tie.spec
-    (λ c. search rules) (λ c. search rules) (λ c. search rules) (λ c κs. search rules) (λ c. search rules) (λ c. search rules)
-    (λ c. search rules) (λ c κs. search rules) (λ c. search rules) (λ c. search rules) (λ c κs. search rules) (λ c. search rules)
+    (tie.spec (λ c. search rules) (λ c κs. search rules)
+    (λ c. search rules) (λ c κs. search rules) (λ c κs. search rules) (λ c. search rules)
     (λ c. search rules) (λ c κs. search rules) (λ c. search rules) returns)

@@ -9,12 +9,12 @@ use Rattle.table.proofs.records.write_record.Tie as tie
 
 returns : tie.Need-returns
 returns c =
-    let v = c.before.before.write-answer.ensures in
-    let w = c.before.before.before.before.before.before.write-start.ensures in
+    let v = c.write_answer.ensures in
+    let w = c.write_start-answer.ensures in
     (λ a h. named (record-pieces _ _ _ a) (then w.0 (v.0 a h)), omega (arith, w.1, v.1))
 
-pub write-record-spec : {M : Type 1} → statement M
-write-record-spec =
+pub write_record_spec : {M : Type 1} → statement M
+write_record_spec =
     tie.close
     (tie.spec
     (λ c κs. search rules) (λ c κs. search rules) (λ c. search rules) returns)

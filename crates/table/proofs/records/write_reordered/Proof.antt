@@ -17,19 +17,19 @@ use Rattle.table.proofs.records.write_reordered.Tie as tie
 returns : tie.Need-returns
 unfolding answer_pieces row_of
 returns c =
-    let e2 = c.before.before in
-    let e1 = e2.before.before.before.before.before.before in
-    let s = e1.before.before.before.before in
+    let e2 = c in
+    let e1 = e2 in
+    let s = e1 in
     let json = s.args.json in (
       λ f h.
           named (joined-join (lateness_pieces json f.position f.extent f.late) (offset_pieces json f.offset f.largest))
-          (then (e1.write-lateness.ensures.0 f h)
-          (named (ap (λ (l : List ℕ). joined (offset_pieces json (get_or l 5 0) (get_or l 6 0))) h) e2.write-offset.ensures.0)),
-      omega (arith, e1.write-lateness.ensures.1, e2.write-offset.ensures.1),
+          (then (e1.write_lateness-one.ensures.0 f h)
+          (named (ap (λ (l : List ℕ). joined (offset_pieces json (get_or l 5 0) (get_or l 6 0))) h) e2.write_offset.ensures.0)),
+      omega (arith, e1.write_lateness-one.ensures.1, e2.write_offset.ensures.1),
     )
 
-pub write-reordered-spec : {M : Type 1} → statement M
-write-reordered-spec =
+pub write_reordered_spec : {M : Type 1} → statement M
+write_reordered_spec =
     tie.close
     (tie.spec
     (λ c κs. search rules) (λ c. search rules) (λ c. search rules) (λ c κs. search rules) (λ c. search rules) returns)

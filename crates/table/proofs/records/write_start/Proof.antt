@@ -10,20 +10,20 @@ use Rattle.table.proofs.records.write_start.Tie as tie
 returns : tie.Need-returns
 unfolding start_pieces
 returns c =
-    let e4 = c.before.before in
-    let e3 = e4.before.before.before.before.before.before in
-    let e2 = e3.before.before.before.before.before.before.before in
-    let e1 = e2.before.before.before.before in (
-      then e1.write-opening.ensures.0
-          (then e2.write-number.ensures.0
-          (then e3.write-value.ensures.0
-          (then e4.write-value2.ensures.0 (nothing _ _)))),
-      omega (arith, e1.write-opening.ensures.1, e2.write-number.ensures.1, e3.write-value.ensures.1, e4.write-value2.ensures.1),
+    let e4 = c in
+    let e3 = e4 in
+    let e2 = e3 in
+    let e1 = e2 in (
+      then e1.write_opening-one.ensures.0
+          (then e2.write_number-two.ensures.0
+          (then e3.write_value-three.ensures.0
+          (then e4.write_value.ensures.0 (nothing _ _)))),
+      omega (arith, e1.write_opening-one.ensures.1, e2.write_number-two.ensures.1, e3.write_value-three.ensures.1, e4.write_value.ensures.1),
     )
 
-pub write-start-spec : {M : Type 1} → statement M
-write-start-spec =
+pub write_start_spec : {M : Type 1} → statement M
+write_start_spec =
     tie.close
     (tie.spec
-    (λ c κs. search rules) (λ c. search rules) (λ c κs. search rules) (λ c. search rules) (λ c. search rules) (λ c. search rules)
-    (λ c κs. search rules) (λ c. search rules) (λ c. search rules) (λ c κs. search rules) (λ c. search rules) returns)
+    (λ c κs. search rules) (λ c. search rules) (λ c κs. search rules) (λ c. search rules)
+    (λ c κs. search rules) (λ c κs. search rules) (λ c. search rules) returns)

@@ -23,99 +23,99 @@ use Rattle.table.proofs.whole.put_part.Tie as tie
 
 -- ---- places in the code: the text that was written to the line, seen from the end, and the start, seen from the tests of `part`
 
-abbrev start : tie.Else1 → tie.Start
+abbrev start : tie.Else-part-gt17 → tie.Start
 start c = c.before.before.before.before
 
-abbrev after-written : tie.After-slice-known2 → tie.After-write-after
+abbrev after-written : tie.After-slice_known-then-part-eq17-1 → tie.After-write_after-n
 after-written c = c.before.before.before.before.before.before
 
-abbrev before-written : tie.After-slice-known3 → tie.After-write-before
+abbrev before-written : tie.After-slice_known-then-part-eq0-1 → tie.After-write_before-n
 before-written c = c.before.before.before.before.before.before
 
-abbrev start-of-records : tie.Else3 → tie.Start
-start-of-records c = start c.before.before
+abbrev start-of-records : tie.Else-part-eq0 → tie.Start
+start-of-records c = c.before.before.before.before.before.before
 
-returns : tie.Need-returns
+returns : tie.Need-returns-then-part-gt17
 returns c =
-    let s = c.before.before.before.before in
-    (omega arith, put-named (part_none s.args.json (decode s.args.file.now) s.args.part c.if1.true) (put-nothing 0 _))
+    let s = c in
+    (omega arith, put-named (part_none s.args.json (decode s.args.file.now) s.args.part c.if-part-gt17.true) (put-nothing 0 _))
 
-slice-aggregate-put-octets : tie.Need-slice-aggregate-put-octets
-slice-aggregate-put-octets c = (stands c.before.before.before.write-after.ensures.0).0
+slice-aggregate-put-octets : tie.Need-slice_bounds-put_octets-end
+slice-aggregate-put-octets c = (stands c.write_after-n.ensures.0).0
 
-returns-2 : tie.Need-returns-2
+returns-2 : tie.Need-returns-then-part-eq17
 returns-2 c =
     let w = after-written c in
     let s = start w.before.before.before in
     let d = decode s.args.file.now in (
-      omega (arith, w.write-after.ensures.1),
+      omega (arith, w.write_after-n.ensures.1),
       put-named
-          (ap (λ (c : Counts). end_text s.args.json s.args.layout.sent s.args.layout.arrivals c) s.pre.2
-          ∙ ap (λ (y : Layout). end_text s.args.json y.sent y.arrivals (counts (answers_of d))) s.pre.0.laid
-          ∙ part_end s.args.json d s.args.part w.before.before.if2.taken)
-          (line-put (omega arith) w.write-after.ensures.0 c.before.before.put-octets.ensures),
+          (ap (λ (c : Counts). end_text s.args.json s.args.layout.sent s.args.layout.arrivals c) s.requires.2
+          ∙ ap (λ (y : Layout). end_text s.args.json y.sent y.arrivals (counts (answers_of d))) s.requires.0.laid
+          ∙ part_end s.args.json d s.args.part w.if-part-eq17.true)
+          (line-put (omega arith) w.write_after-n.ensures.0 c.put_octets.ensures),
     )
 
-write-before-requires : tie.Need-write-before-requires
+write-before-requires : tie.Need-write_before-n-requires
 write-before-requires c κs =
-    let k = c.before.before.before.before.before.before.before in
-    let short = label-short k.before.args.file.now (λ i. (k.shared-slice-known.given i).fits) in
+    let k = c in
+    let short = label-short k.args.file.now (λ i. (k.shared_slice_known-1.given i).fits) in
     (search rules, omega (arith, ap length c.label.ensures.0, short))
 
-slice-aggregate-put-octets-2 : tie.Need-slice-aggregate-put-octets-2
-slice-aggregate-put-octets-2 c = (stands c.before.before.before.write-before.ensures.0).0
+slice-aggregate-put-octets-2 : tie.Need-slice_bounds-put_octets-end-then-part-eq0
+slice-aggregate-put-octets-2 c = (stands c.write_before-n.ensures.0).0
 
-returns-3 : tie.Need-returns-3
+returns-3 : tie.Need-returns-then-part-eq0
 returns-3 c =
     let w = before-written c in
-    let k = w.before.before.before in
-    let s = start k.before.before in
+    let k = w in
+    let s = start k.before.before.before.before.before in
     let d = decode s.args.file.now in (
-      omega (arith, w.write-before.ensures.1),
+      omega (arith, w.write_before-n.ensures.1),
       put-named
-          (ap (λ (l : List ℕ). start_text s.args.json l) w.before.label.ensures.0
-          ∙ part-start s.args.json d s.args.part k.if3.taken)
-          (line-put (omega arith) w.write-before.ensures.0 c.before.before.put-octets2.ensures),
+          (ap (λ (l : List ℕ). start_text s.args.json l) w.label.ensures.0
+          ∙ part-start s.args.json d s.args.part k.if-part-eq0.true)
+          (line-put (omega arith) w.write_before-n.ensures.0 c.put_octets-then-part-eq0.ensures),
     )
 
-put-records-requires : tie.Need-put-records-requires
+put-records-requires : tie.Need-put_records-requires
 unfolding PartRows
 put-records-requires c κs =
     let s = start-of-records c.before.before.before in
-    let low = c.before.before.block_start.ensures in
-    let high = c.before.block-start2.ensures in
+    let low = c.block_start-from.ensures in
+    let high = c.block_start-to.ensures in
     let d = decode s.args.file.now in
-    let count : s.args.layout.arrivals ≡ length (sample_arrivals d) = ap (λ (y : Layout). y.arrivals) s.pre.0.laid in (
-      s.pre.0,
-      rw (low, high, count) s.pre.1,
+    let count : s.args.layout.arrivals ≡ length (sample_arrivals d) = ap (λ (y : Layout). y.arrivals) s.requires.0.laid in (
+      s.requires.0,
+      rw (low, high, count) s.requires.1,
       omega (arith, low, high),
       omega (arith, high),
       omega (arith, low, high),
     )
 
-returns-4 : tie.Need-returns-4
+returns-4 : tie.Need-returns
 returns-4 c =
-    let p = c.before.before in
-    let high = p.before.before in
-    let low = high.before in
-    let third = low.before in
-    let s = start-of-records third in
+    let p = c in
+    let high = p in
+    let low = high in
+    let third = low in
+    let s = start-of-records third.before.before.before.before.before.before in
     let d = decode s.args.file.now in
-    let first : low.block_start.result ≡ block_start d (s.args.part - 1) =
-    low.block_start.ensures ∙ ap (λ (y : Layout). min (256 * (s.args.part - 1)) y.arrivals) s.pre.0.laid in
-    let last : high.block-start2.result ≡ block_start d s.args.part =
-    high.block-start2.ensures ∙ ap (λ (y : Layout). min (256 * s.args.part) y.arrivals) s.pre.0.laid in
-    let few : s.args.part ≤ 16 = omega (arith, third.before.if2.false, third.before.before.if1.false) in (
-      p.put-records.ensures.0,
+    let first : low.block_start-from.result ≡ block_start d (s.args.part - 1) =
+    low.block_start-from.ensures ∙ ap (λ (y : Layout). min (256 * (s.args.part - 1)) y.arrivals) s.requires.0.laid in
+    let last : high.block_start-to.result ≡ block_start d s.args.part =
+    high.block_start-to.ensures ∙ ap (λ (y : Layout). min (256 * s.args.part) y.arrivals) s.requires.0.laid in
+    let few : s.args.part ≤ 16 = omega (arith, third.if-part-eq17.false, third.if-part-gt17.false) in (
+      p.put_records.ensures.0,
       put-named
-          (ap (λ (n : ℕ). records_from s.args.json d n (high.block-start2.result - n)) first
+          (ap (λ (n : ℕ). records_from s.args.json d n (high.block_start-to.result - n)) first
           ∙ ap (λ (n : ℕ). records_from s.args.json d (block_start d (s.args.part - 1)) (n - block_start d (s.args.part - 1))) last
-          ∙ part-records s.args.json d s.args.part third.if3.false few)
-          p.put-records.ensures.1,
+          ∙ part-records s.args.json d s.args.part third.if-part-eq0.false few)
+          p.put_records.ensures.1,
     )
 
-pub put-part-spec : {M : Type 1} → statement M
-put-part-spec =
+pub put_part_spec : {M : Type 1} → statement M
+put_part_spec =
     tie.close
     (tie.spec
     returns

@@ -18,113 +18,113 @@ use Rattle.table.proofs.whole.put_records.Statement.{statement}
 use Rattle.table.proofs.whole.put_records.Tie as tie
 
 -- out₀ is `out` where the loop begins; out, line, at and i are the values at its head
-abbrev invariant-loop : tie.invariant-loop
-invariant-loop file layout rows json from to out₀ line₀ at₀ i₀ out line at i =
+abbrev invariant-loop-i : tie.invariant-loop-i
+invariant-loop-i file layout rows json from to out₀ line₀ at₀ i₀ out line at i =
     (from ≤ i)
     × (i ≤ to)
     × (at ≤ 512 * (i - from))
     × Put 0 at (records_from json (decode file) from (i - from)) out₀ out
     × (length line ≡ 512)
 
-abbrev decreases-loop : tie.decreases-loop
-decreases-loop file layout rows json from to out₀ line₀ at₀ i₀ out line at i = to - i
+abbrev decreases-loop-i : tie.decreases-loop-i
+decreases-loop-i file layout rows json from to out₀ line₀ at₀ i₀ out line at i = to - i
 
 -- ---- places in the code: a turn of the loop, seen from the record that was written and from the octets that were put; and the start,
 -- from the loop
 
-abbrev turn : tie.After-write-record invariant-loop decreases-loop → tie.In-loop invariant-loop decreases-loop
+abbrev turn : tie.After-write_record-n invariant-loop-i decreases-loop-i → tie.In-loop-i invariant-loop-i decreases-loop-i
 turn w = w.before.before.before.before
 
-abbrev written : tie.After-slice-known2 invariant-loop decreases-loop → tie.After-write-record invariant-loop decreases-loop
+abbrev written : tie.After-slice_known-in-loop-i-1 invariant-loop-i decreases-loop-i → tie.After-write_record-n invariant-loop-i decreases-loop-i
 written c = c.before.before.before.before.before.before
 
-abbrev start : tie.At-loop invariant-loop decreases-loop → tie.Start invariant-loop decreases-loop
+abbrev start : tie.At-loop-i invariant-loop-i decreases-loop-i → tie.Start invariant-loop-i decreases-loop-i
 start h = h.before.before.before.before
 
-loop-holds : tie.Need-loop-init invariant-loop decreases-loop
+loop-holds : tie.Need-loop-i-init invariant-loop-i decreases-loop-i
 loop-holds c =
-    let s = c.before.before.before in
+    let s = c in
     let e : 0 ≡ s.args.from - s.args.from = omega arith in
     let text = ap (λ (n : ℕ). records_from s.args.json (decode s.args.file.now) s.args.from n) e in
     (omega arith, s.requires.2, omega arith, put-named text (put-nothing 0 _), search rules)
 
-write-record-requires : tie.Need-write-record-requires invariant-loop decreases-loop
+write-record-requires : tie.Need-write_record-n-requires invariant-loop-i decreases-loop-i
 write-record-requires c κs =
-    let t = c.before.before.before in
-    let s = start t.before in
-    let l = t.before.loop in
-    let inside = t.loop-test.true in (
+    let t = c in
+    let s = start t.before.before.before.before in
+    let l = t.loop-i in
+    let inside = t.loop-i-test.true in (
       omega (arith, l.invariant.4),
-      row-length s.args.rows.now (l.i - s.args.from) (omega (arith, s.pre.1.room, l.invariant.0, inside)),
+      row-length s.args.rows.now (l.i - s.args.from) (omega (arith, s.requires.1.room, l.invariant.0, inside)),
     )
 
-slice-aggregate-put-octets : tie.Need-slice-aggregate-put-octets invariant-loop decreases-loop
+slice-aggregate-put-octets : tie.Need-slice_bounds-put_octets-end invariant-loop-i decreases-loop-i
 slice-aggregate-put-octets c =
-    let w = c.before.before.before in
-    let t = turn w in
+    let w = c in
+    let t = turn w.before.before.before in
     let s = start t.before in
-    let l = t.before.loop in
-    let inside : l.i < s.args.layout.arrivals = omega (arith, t.loop-test.taken, s.pre.3) in
-    let a = (arrival-known _ _ s.pre.0 _ inside w.before.before.before.arrival.ensures.1).0 in
-    (stands (record-written s.args.json _ _ _ _ l.i s.pre.1 l.inv.0 t.loop-test.taken a w.write-record.ensures.0)).0
+    let l = t.loop-i in
+    let inside : l.i < s.args.layout.arrivals = omega (arith, t.loop-i-test.true, s.requires.3) in
+    let a = (arrival-known _ _ s.requires.0 _ inside w.arrival-arrival.ensures.1).0 in
+    (stands (record-written s.args.json _ _ _ _ l.i s.requires.1 l.invariant.0 t.loop-i-test.true a w.write_record-n.ensures.0)).0
 
-add_at : tie.Need-overflow-add-at invariant-loop decreases-loop
+add_at : tie.Need-overflow_add-at invariant-loop-i decreases-loop-i
 add_at c =
     let w = written c in
     let t = turn w in
-    let l = t.before.loop in
+    let l = t.loop-i in
     let s = start t.before in
-    omega (arith, l.inv.2, l.inv.0, t.loop-test.taken, s.pre.0.few, s.pre.3, w.write-record.ensures.1)
+    omega (arith, l.invariant.2, l.invariant.0, t.loop-i-test.true, s.requires.0.few, s.requires.3, w.write_record-n.ensures.1)
 
-add-i : tie.Need-overflow-add-i invariant-loop decreases-loop
+add-i : tie.Need-overflow_add-i invariant-loop-i decreases-loop-i
 add-i c =
     let t = turn (written c) in
     let s = start t.before in
-    omega (arith, t.loop-test.taken, s.pre.0.few, s.pre.3)
+    omega (arith, t.loop-i-test.true, s.requires.0.few, s.requires.3)
 
-loop-less : tie.Need-loop-smaller invariant-loop decreases-loop
+loop-less : tie.Need-loop-i-smaller invariant-loop-i decreases-loop-i
 loop-less c =
     let t = turn (written c) in
-    omega (arith, t.loop-test.taken)
+    omega (arith, t.loop-i-test.true)
 
-loop-again : tie.Need-loop-preserved invariant-loop decreases-loop
+loop-again : tie.Need-loop-i-preserved invariant-loop-i decreases-loop-i
 loop-again c =
-    let p = c.before.before in
+    let p = c in
     let w = written c in
     let t = turn w in
-    let l = t.before.loop in
+    let l = t.loop-i in
     let s = start t.before in
     let d = decode s.args.file.now in
-    let inside : l.i < s.args.layout.arrivals = omega (arith, t.loop-test.taken, s.pre.3) in
-    let a = (arrival-known _ _ s.pre.0 _ inside w.before.before.before.arrival.ensures.1).0 in
-    let v = record-written s.args.json _ _ _ _ l.i s.pre.1 l.inv.0 t.loop-test.taken a w.write-record.ensures.0 in (
-      omega (arith, l.inv.0),
-      omega (arith, t.loop-test.taken),
-      omega (arith, l.inv.2, l.inv.0, w.write-record.ensures.1),
-      put-named (records-next s.args.json d s.args.from l.i l.inv.0)
-          (put_then l.inv.3 (line-put refl v p.put-octets.ensures)),
+    let inside : l.i < s.args.layout.arrivals = omega (arith, t.loop-i-test.true, s.requires.3) in
+    let a = (arrival-known _ _ s.requires.0 _ inside w.arrival-arrival.ensures.1).0 in
+    let v = record-written s.args.json _ _ _ _ l.i s.requires.1 l.invariant.0 t.loop-i-test.true a w.write_record-n.ensures.0 in (
+      omega (arith, l.invariant.0),
+      omega (arith, t.loop-i-test.true),
+      omega (arith, l.invariant.2, l.invariant.0, w.write_record-n.ensures.1),
+      put-named (records-next s.args.json d s.args.from l.i l.invariant.0)
+          (put_then l.invariant.3 (line-put refl v p.put_octets.ensures)),
       search rules,
     )
 
-same_length : tie.Need-same-length invariant-loop decreases-loop
-same_length c = c.before.loop.invariant.3.same
+same_length : tie.Need-shape_of-out invariant-loop-i decreases-loop-i
+same_length c = c.loop-i.invariant.3.same
 
-returns : tie.Need-returns invariant-loop decreases-loop
+returns : tie.Need-returns invariant-loop-i decreases-loop-i
 returns c =
-    let l = c.before.loop in
+    let l = c.loop-i in
     let s = start c.before in
-    let e : l.i ≡ s.args.to = omega (arith, l.invariant.1, c.loop-test.false) in (
-      omega (arith, l.invariant.2, l.invariant.1, s.pre.4),
+    let e : l.i ≡ s.args.to = omega (arith, l.invariant.1, c.loop-i-test.false) in (
+      omega (arith, l.invariant.2, l.invariant.1, s.requires.4),
       put-named (ap (λ (n : ℕ). records_from s.args.json (decode s.args.file.now) s.args.from (n - s.args.from)) e)
           l.invariant.3,
     )
 
-pub put-records-spec : {M : Type 1} → statement M
-put-records-spec =
+pub put_records_spec : {M : Type 1} → statement M
+put_records_spec =
     tie.close
     (tie.spec
-    invariant-loop
-    decreases-loop
+    invariant-loop-i
+    decreases-loop-i
     loop-holds
     (λ c κs. search rules)
     (λ c. search rules)

@@ -9,15 +9,15 @@ use Rattle.table.proofs.whole.write_after.Tie as tie
 
 returns : tie.Need-returns
 returns c =
-    let e3 = c.before.before in
-    let e2 = e3.before.before.before.before in
-    let e1 = e2.before.before.before.before in (
-      named (end-pieces _ _ _ _) (then e1.write-sent.ensures.0 (then e2.write-counts.ensures.0 e3.write-runs.ensures.0)),
-      omega (arith, e1.write-sent.ensures.1, e2.write-counts.ensures.1, e3.write-runs.ensures.1),
+    let e3 = c in
+    let e2 = e3 in
+    let e1 = e2 in (
+      named (end-pieces _ _ _ _) (then e1.write_sent-one.ensures.0 (then e2.write_counts-two.ensures.0 e3.write_runs.ensures.0)),
+      omega (arith, e1.write_sent-one.ensures.1, e2.write_counts-two.ensures.1, e3.write_runs.ensures.1),
     )
 
-pub write-after-spec : {M : Type 1} → statement M
-write-after-spec =
+pub write_after_spec : {M : Type 1} → statement M
+write_after_spec =
     tie.close
     (tie.spec
     (λ c κs. search rules) (λ c κs. search rules) (λ c κs. search rules) (λ c. search rules) returns)

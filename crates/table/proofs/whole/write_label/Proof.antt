@@ -8,15 +8,15 @@ use Rattle.table.proofs.whole.write_label.Tie as tie
 
 returns : tie.Need-returns
 returns c =
-    let w = c.before.before.before in
-    let s = w.before.before.before.before in
+    let w = c in
+    let s = w in
     let few = s.requires.1 in
-    let long = w.write-json-label.ensures.1 few in
-    let t = label-written s.args.label.now w.write-json-label.ensures.0 few (omega (arith, long, s.requires.0)) in
+    let long = w.write_json_label.ensures.1 few in
+    let t = label-written s.args.label.now w.write_json_label.ensures.0 few (omega (arith, long, s.requires.0)) in
     (t, omega (arith, t.place, long))
 
-pub write-label-spec : {M : Type 1} → statement M
-write-label-spec =
+pub write_label_spec : {M : Type 1} → statement M
+write_label_spec =
     tie.close
     (tie.spec
     (λ c κs. search rules) (λ c. search rules) (λ c. search rules) returns)

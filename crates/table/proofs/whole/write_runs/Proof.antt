@@ -10,22 +10,18 @@ use Rattle.table.proofs.whole.write_runs.Tie as tie
 returns : tie.Need-returns
 unfolding run_pieces
 returns c =
-    let e4 = c.before.before in
-    let e3 = e4.before.before.before.before.before.before in
-    let e2 = e3.before.before.before.before.before.before.before in
-    let e1 = e2.before.before.before.before.before.before.before in (
-      then e1.write-value.ensures.0
-          (then e2.write-value2.ensures.0
-          (then e3.write-value3.ensures.0
-          (then e4.write-either.ensures.0 (nothing _ _)))),
-      omega (arith, e1.write-value.ensures.1, e2.write-value2.ensures.1, e3.write-value3.ensures.1, e4.write-either.ensures.1),
+    let e4 = c in
+    let e3 = e4 in
+    let e2 = e3 in
+    let e1 = e2 in (
+      then e1.write_value-one.ensures.0
+          (then e2.write_value-two.ensures.0
+          (then e3.write_value-three.ensures.0
+          (then e4.write_either.ensures.0 (nothing _ _)))),
+      omega (arith, e1.write_value-one.ensures.1, e2.write_value-two.ensures.1, e3.write_value-three.ensures.1, e4.write_either.ensures.1),
     )
 
-pub write-runs-spec : {M : Type 1} → statement M
-write-runs-spec =
+pub write_runs_spec : {M : Type 1} → statement M
+write_runs_spec =
     tie.close
-    (tie.spec
-    (λ c. search rules) (λ c. search rules) (λ c. search rules) (λ c κs. search rules)
-    (λ c. search rules) (λ c. search rules) (λ c. search rules) (λ c κs. search rules)
-    (λ c. search rules) (λ c. search rules) (λ c. search rules) (λ c κs. search rules)
-    (λ c. search rules) (λ c. search rules) (λ c κs. search rules) (λ c. search rules) returns)
+    (tie.spec (λ c. search rules) (λ c κs. search rules) (λ c. search rules) (λ c κs. search rules) (λ c. search rules) (λ c κs. search rules) (λ c κs. search rules) (λ c. search rules) returns)

@@ -10,15 +10,14 @@ use Rattle.table.proofs.whole.write_sent.Tie as tie
 returns : tie.Need-returns
 unfolding sent_pieces
 returns c =
-    let e2 = c.before.before in
-    let e1 = e2.before.before.before.before.before.before in (
-      then e1.write-value.ensures.0 (then e2.write-value2.ensures.0 (nothing _ _)),
-      omega (arith, e1.write-value.ensures.1, e2.write-value2.ensures.1),
+    let e2 = c in
+    let e1 = e2 in (
+      then e1.write_value-one.ensures.0 (then e2.write_value.ensures.0 (nothing _ _)),
+      omega (arith, e1.write_value-one.ensures.1, e2.write_value.ensures.1),
     )
 
-pub write-sent-spec : {M : Type 1} → statement M
-write-sent-spec =
+pub write_sent_spec : {M : Type 1} → statement M
+write_sent_spec =
     tie.close
-    (tie.spec
-    (λ c. search rules) (λ c. search rules) (λ c κs. search rules) (λ c. search rules) (λ c. search rules) (λ c κs. search rules)
+    (tie.spec (λ c κs. search rules) (λ c κs. search rules)
     (λ c. search rules) returns)
