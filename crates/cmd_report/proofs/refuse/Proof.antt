@@ -6,15 +6,15 @@ use Rattle.cmd_report.proofs.Laws.{put-short, put-fitting}
 use Rattle.cmd_report.proofs.refuse.Statement.{statement}
 use Rattle.cmd_report.proofs.refuse.Tie as tie
 
-returns : tie.Need-returns
+returns : tie.Need-returns-then-out-n
 returns c =
-    let e = c.before.before.before.Put-refused.ensures in
+    let e = c.put_refused-n.ensures in
     put-short _ _ e.0 e.1 (omega arith)
 
-returns-2 : tie.Need-returns-2
+returns-2 : tie.Need-returns
 returns-2 c =
-    let e = c.before.before.before.Put-refused.ensures in
+    let e = c.put_refused-n.ensures in
     put-fitting _ _ e.0 e.1 (omega arith)
 
-pub refuse-spec : {M : Type 1} → statement M
-refuse-spec = tie.close (tie.spec (λ c κs. search rules) (λ c. search rules) returns (λ c. search rules) returns-2)
+pub refuse_spec : {M : Type 1} → statement M
+refuse_spec = tie.close (tie.spec (λ c κs. search rules) (λ c. search rules) returns (λ c. search rules) returns-2)

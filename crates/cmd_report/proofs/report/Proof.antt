@@ -14,28 +14,28 @@ use Rattle.cmd_report.proofs.report.Statement.{statement}
 use Rattle.cmd_report.proofs.report.Tie as tie
 
 -- the input's own refusal
-own : (c : tie.After-check) → c.check.result.refusal ≡ decoded_refusal (decode c.before.before.before.args.input.now)
-own c = ap (λ (y : Layout). y.refusal) c.check.ensures.0
+own : (c : tie.After-check-own) → c.check-own.result.refusal ≡ decoded_refusal (decode c.args.input.now)
+own c = ap (λ (y : Layout). y.refusal) c.check-own.ensures.0
 
-returns : tie.Need-returns
+returns : tie.Need-returns-then-own-ne-NONE
 returns c =
-    let found = c.before.before.before.before.before in
-    let r = found.check.result.refusal in
+    let found = c in
+    let r = found.check-own.result.refusal in
     let fits : r < 2 ^ 32 = omega arith in
-    rw (text-refused _ (own found) c.before.before.before.before.if1.true)
-    (c.before.before.refuse.ensures, omega (arith, refused-octets r fits))
+    rw (text-refused _ (own found.before.before.before.before.before) c.if-own-ne-NONE.true)
+    (c.refuse.ensures, omega (arith, refused-octets r fits))
 
-returns-2 : tie.Need-returns-2
+returns-2 : tie.Need-returns
 returns-2 c =
-    let found = c.before.before.before.before.before.before in
-    let file = found.before.before.before.args.input.now in
-    let none = c.before.before.before.before.before.if1.false in
-    let text = text-accepted (decode file) (found-sample file found.check.result found.check.ensures.0 none) in
-    let e = c.before.before.before.listing.ensures in
-    (listed-text (decode file) _ (sym none ∙ own found) text e.0, rw text e.1.0)
+    let found = c in
+    let file = found.args.input.now in
+    let none = c.if-own-ne-NONE.false in
+    let text = text-accepted (decode file) (found-sample file found.check-own.result found.check-own.ensures.0 none) in
+    let e = c.listing.ensures in
+    (listed-text (decode file) _ (sym none ∙ own found.before.before.before.before.before.before) text e.0, rw text e.1.0)
 
-pub report-spec : {M : Type 1} → statement M
-report-spec =
+pub report_spec : {M : Type 1} → statement M
+report_spec =
     tie.close
     (tie.spec
     (λ c κs. search rules) (λ c κs. search rules) (λ c. search rules)

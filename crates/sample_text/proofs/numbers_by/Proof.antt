@@ -4,8 +4,8 @@ use Rattle.rfc4737.specs.Judge.{arrivals_most}
 use Rattle.sample_text.proofs.numbers_by.Statement.{statement}
 use Rattle.sample_text.proofs.numbers_by.Tie as tie
 
-pub numbers-by-spec : {M : Type 1} → statement M
-numbers-by-spec =
+pub numbers_by_spec : {M : Type 1} → statement M
+numbers_by_spec =
     tie.close
     (tie.spec
     (λ _ _ _ _ _ _ _ i. i ≤ arrivals_most)

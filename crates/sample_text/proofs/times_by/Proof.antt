@@ -4,8 +4,8 @@ use Rattle.rfc4737.specs.Judge.{arrivals_most}
 use Rattle.sample_text.proofs.times_by.Statement.{statement}
 use Rattle.sample_text.proofs.times_by.Tie as tie
 
-pub times-by-spec : {M : Type 1} → statement M
-times-by-spec =
+pub times_by_spec : {M : Type 1} → statement M
+times_by_spec =
     tie.close
     (tie.spec
     (λ _ _ _ _ _ _ _ _ _ _ i. i ≤ arrivals_most)
