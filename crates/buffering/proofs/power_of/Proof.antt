@@ -1,10 +1,9 @@
 -- `buffering::power_of` meets its contract: a shift of at most 57 loses no bit. Assumes nothing.
-use Prim.Native.Nat.{ℕ, ◌*◌, ◌^◌, ◌%◌}
-use mathlib.Core.Path.{◌≡◌, ap, ◌∙◌}
+use Prim.Native.Nat.{ℕ, ◌^◌, ◌%◌}
+use mathlib.Core.Path.{ap, ◌∙◌}
 use native.Mathlib.Nat.{mod-eq_of_lt, one-mul}
 use native.Mathlib.Omega.{arith}
 use lib.Pow.{pow-lt}
-use borrow.Author.Rules.{rules}
 use Rattle.buffering.proofs.power_of.Statement.{statement}
 use Rattle.buffering.proofs.power_of.Tie as tie
 
