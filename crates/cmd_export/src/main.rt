@@ -35,7 +35,8 @@ fn write_arrivals(rt: &impl Print, kind: Kind, file: &[u8]) -> io::Result<()> {
     if written.refusal != 0 {
         return write_refusal(rt, written.refusal);
     }
-    write_first(rt, &out, written.length as usize)
+    write_first(rt, &out, written.length as usize)?;
+    Ok(())
 }
 
 // Reads the whole input and writes its arrivals.

@@ -45,7 +45,8 @@ fn tell_full(rt: &impl Eprint, line: u64) {
 // Writes the first n octets of `out`. Returns GOING; or UNWRITTEN if they can't be written, GONE if it is for want of a reader.
 fn write_line(rt: &impl Print, out: &[u8], n: usize) -> u32 {
     match write_first(rt, out, n) {
-        Ok(()) => GOING,
+        Ok(true) => GOING,
+        Ok(false) => UNWRITTEN,
         Err(e) if e.kind() == ErrorKind::BrokenPipe => GONE,
         Err(_) => UNWRITTEN,
     }

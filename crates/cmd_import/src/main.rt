@@ -57,7 +57,8 @@ fn write_sample(
         let line = refused_line(kind, input, k);
         return write_refusal(rt, converted.refusal, input, line);
     }
-    write_first(rt, &out, converted.length as usize)
+    write_first(rt, &out, converted.length as usize)?;
+    Ok(())
 }
 
 // Takes the label, reads the whole input and writes its sample file.

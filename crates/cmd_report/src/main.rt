@@ -42,5 +42,6 @@ fn main(rt: HostRuntime) -> io::Result<()> {
     let mut input = [0u8; SAMPLE_ROOM];
     let mut out = [0u8; LISTING_OCTETS];
     let length = report(read_input(&rt, &mut input)?, &mut out);
-    write_first(&rt, &out, length)
+    write_first(&rt, &out, length)?;
+    Ok(())
 }

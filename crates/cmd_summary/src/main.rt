@@ -79,5 +79,6 @@ fn main(rt: HostRuntime) -> io::Result<()> {
     let mut input = [0u8; SAMPLE_ROOM];
     let mut out = [0u8; ALL_OCTETS];
     let length = summarize(asked_form(&rt), read_input(&rt, &mut input)?, &mut out).length as usize;
-    write_first(&rt, &out, length)
+    write_first(&rt, &out, length)?;
+    Ok(())
 }

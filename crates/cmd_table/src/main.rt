@@ -55,7 +55,8 @@ fn put_part(json: bool, input: &[u8], part: u32, out: &mut [u8]) -> usize
 fn print_part(rt: &impl Print, json: bool, input: &[u8], part: u32) -> io::Result<()> {
     let mut out = [0u8; PART_OCTETS];
     let n = put_part(json, input, part, &mut out);
-    write_first(rt, &out, n)
+    write_first(rt, &out, n)?;
+    Ok(())
 }
 
 // Prints all parts of the text of an input.

@@ -33,19 +33,21 @@ fn start_of(octets: &[u8], n: usize) -> &[u8]
     &octets[0..n]
 }
 
-// Writes the first n octets. Fails if there are fewer.
-pub fn write_first(rt: &impl Print, octets: &[u8], n: usize) -> io::Result<()> {
-    if n <= octets.len() {
-        return write_word(rt, start_of(octets, n));
+// Writes the first n octets. Returns whether there are n octets; else nothing is written.
+pub fn write_first(rt: &impl Print, octets: &[u8], n: usize) -> io::Result<bool> {
+    if octets.len() < n {
+        return Ok(false);
     }
-    Err(io::Error::from(io::ErrorKind::InvalidInput))
+    write_word(rt, start_of(octets, n))?;
+    Ok(true)
 }
 
 // Writes the words of a refusal; nothing for a number that is no refusal.
 pub fn write_words(rt: &impl Print, refusal: u32) -> io::Result<()> {
     let mut words = [0u8; refusals::OCTETS];
     let written = refusals::words(refusal, &mut words);
-    write_first(rt, &words, written.length as usize)
+    write_first(rt, &words, written.length as usize)?;
+    Ok(())
 }
 
 // Writes the line of a refusal, `refused N: WORDS`.
