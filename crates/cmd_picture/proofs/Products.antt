@@ -1,6 +1,5 @@
--- Products that fit 64 bits, and the part of a length. Assumes nothing.
+-- Products that fit 64 bits. Assumes nothing.
 use Rattle.std.proofs.Common.{ℕ, ◌*◌, ◌/◌, ◌<◌, ◌≤◌, mul-le-mul_right, mul-le-mul, mul-le-mul_left, arith, w64, Fits}
-use native.Mathlib.Nat.{div-le_of_le-mul}
 
 -- a number below 2^48 times one up to 10,000
 pub product-fits : (m n : ℕ) → m < 281474976710656 → n ≤ 10000 → Fits w64 (m * n)
@@ -13,7 +12,3 @@ pub columns-fit : (m n : ℕ) → m < 18446744073709551616 → n ≤ 165 → Fit
 columns-fit m n h k =
     let p : m / 165 * n ≤ m / 165 * 165 = mul-le-mul_left (m / 165) k in
     record { fits = omega arith }
-
--- the part of a length that a value is of a span that is no smaller
-pub part-within : (value length span : ℕ) → value ≤ span → value * length / span ≤ length
-part-within value length span h = div-le_of_le-mul span {m = value * length} {n = length} (mul-le-mul_right length h)

@@ -9,33 +9,33 @@ use Rattle.capi.proofs.buffering_calls.krakobran_accommodated_steps.Statement.{s
 use Rattle.capi.proofs.buffering_calls.krakobran_accommodated_steps.Tie as tie
 
 -- the places after `outside` and after the call
-abbrev at-outside : tie.After-struct-known → tie.After-outside
+abbrev at-outside : tie.After-struct_known-1 → tie.After-outside
 at-outside c = c.before.before.before.before.before.before
 
-abbrev at_call : tie.After-struct-known → tie.After-accommodated-steps
+abbrev at_call : tie.After-struct_known-1 → tie.After-accommodated_steps-found
 at_call c = c.before.before.before
 
-returns : tie.Need-returns
+returns : tie.Need-returns-then-outside
 returns c =
-    let a = c.before.before.before.before.before.args in
-    let t = sym c.before.before.before.outside.ensures ∙ c.before.before.if1.true in
-    steps-in-none a.measure (decode a.file.now) t c.no-measure.result c.no-measure.ensures a.low a.shift
+    let a = c.args in
+    let t = sym c.outside.ensures ∙ c.if-outside.true in
+    steps-in-none a.measure (decode a.file.now) t c.no_measure.result c.no_measure.ensures a.low a.shift
 
-step-figures-requires : tie.Need-step-figures-requires
-step-figures-requires c κs = steps-many _ _ _ _ _ c.before.accommodated-steps.ensures
+step-figures-requires : tie.Need-step_figures-requires
+step-figures-requires c κs = steps-many _ _ _ _ _ c.accommodated_steps-found.ensures
 
-returns-2 : tie.Need-returns-2
+returns-2 : tie.Need-returns
 returns-2 c =
     let o = at-outside c in
-    let a = o.before.before.args in
-    let t = sym o.outside.ensures ∙ c.before.before.before.before.before.if1.false in
-    let m = (at_call c).before.measure-of in
-    let s = (at_call c).accommodated-steps in
+    let a = o.args in
+    let t = sym o.outside.ensures ∙ c.if-outside.false in
+    let m = (at_call c).measure_of in
+    let s = (at_call c).accommodated_steps-found in
     steps-in a.measure (decode a.file.now) t m.result m.ensures a.low a.shift s.result _ s.ensures
-    c.before.step-figures.ensures
+    c.step_figures.ensures
 
-pub krakobran-accommodated-steps-spec : {M : Type 1} → statement M
-krakobran-accommodated-steps-spec =
+pub krakobran_accommodated_steps_spec : {M : Type 1} → statement M
+krakobran_accommodated_steps_spec =
     tie.close
     (tie.spec
     (λ c κs. search rules) (λ c κs. search rules) returns (λ c κs. search rules) (λ c κs. search rules) step-figures-requires

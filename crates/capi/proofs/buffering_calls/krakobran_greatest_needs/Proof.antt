@@ -5,7 +5,7 @@ use Rattle.capi.proofs.buffering_calls.krakobran_greatest_needs.Statement.{state
 use Rattle.capi.proofs.buffering_calls.krakobran_greatest_needs.Tie as tie
 
 returns : tie.Need-returns
-returns c = (simp c.before.before.greatest-needs.ensures, simp c.before.before.greatest-needs.ensures)
+returns c = (simp c.greatest_needs-found.ensures, simp c.greatest_needs-found.ensures)
 
-pub krakobran-greatest-needs-spec : {M : Type 1} → statement M
-krakobran-greatest-needs-spec = tie.close (tie.spec (λ c κs. search rules) (λ c. search rules) returns)
+pub krakobran_greatest_needs_spec : {M : Type 1} → statement M
+krakobran_greatest_needs_spec = tie.close (tie.spec (λ c κs. search rules) (λ c. search rules) returns)

@@ -13,16 +13,16 @@ time zero h = absurd (omega arith)
 time (suc zero) h = absurd (omega arith)
 time (suc (suc n)) h = refl
 
-returns : tie.Need-returns
+returns : tie.Need-returns-then-measure-eq-PACKETS
 unfolding measure_of
-returns c = rw c.if1.true refl
+returns c = rw c.if-measure-eq-PACKETS.true refl
 
-returns-2 : tie.Need-returns-2
+returns-2 : tie.Need-returns-then-measure-eq-OCTETS
 unfolding measure_of
-returns-2 c = rw c.if2.true refl
+returns-2 c = rw c.if-measure-eq-OCTETS.true refl
 
-returns-3 : tie.Need-returns-3
-returns-3 c = time _ (omega (arith, c.if2.false, c.before.if1.false))
+returns-3 : tie.Need-returns
+returns-3 c = time _ (omega (arith, c.if-measure-eq-OCTETS.false, c.if-measure-eq-PACKETS.false))
 
-pub measure-of-spec : {M : Type 1} → statement M
-measure-of-spec = tie.close (tie.spec returns returns-2 returns-3)
+pub measure_of_spec : {M : Type 1} → statement M
+measure_of_spec = tie.close (tie.spec returns returns-2 returns-3)

@@ -17,15 +17,15 @@ own r s e h = sym (first-due r (asked_outside ∷ []) h) ∙ ap (λ (x : ℕ). f
 asked : (r s : ℕ) → r ≡ s → r ≡ 0 → asked_outside ≡ first_refusal (s ∷ asked_outside ∷ [])
 asked r s e z = sym (first_next s (asked_outside ∷ []) (sym e ∙ z))
 
-returns : tie.Need-returns
+returns : tie.Need-returns-then-layout-ne0
 returns c =
-    let y = c.before.before.before.check in
-    own _ _ (ap (λ (z : Layout). z.refusal) y.ensures.0) (omega (arith, c.before.if1.true))
+    let y = c.check-layout in
+    own _ _ (ap (λ (z : Layout). z.refusal) y.ensures.0) (omega (arith, c.if-layout-ne0.true))
 
-returns-2 : tie.Need-returns-2
+returns-2 : tie.Need-returns
 returns-2 c =
-    let y = c.before.before.check in
-    asked _ _ (ap (λ (z : Layout). z.refusal) y.ensures.0) c.if1.false
+    let y = c.check-layout in
+    asked _ _ (ap (λ (z : Layout). z.refusal) y.ensures.0) c.if-layout-ne0.false
 
-pub no-measure-spec : {M : Type 1} → statement M
-no-measure-spec = tie.close (tie.spec (λ c κs. search rules) (λ c. search rules) returns (λ c. search rules) returns-2)
+pub no_measure_spec : {M : Type 1} → statement M
+no_measure_spec = tie.close (tie.spec (λ c κs. search rules) (λ c. search rules) returns (λ c. search rules) returns-2)

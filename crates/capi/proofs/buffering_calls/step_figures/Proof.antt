@@ -16,12 +16,12 @@ use Rattle.capi.proofs.buffering_calls.step_figures.Tie as tie
 abbrev empty : ℕ → ℕ → List ℕ
 empty arrived greatest = arrived ∷ greatest ∷ replicate step_count 0
 
-abbrev invariant-loop : tie.invariant-loop
-invariant-loop arrived greatest counts figures₀ j₀ figures j =
+abbrev invariant-loop-j : tie.invariant-loop-j
+invariant-loop-j arrived greatest counts figures₀ j₀ figures j =
     (j ≤ step_count) × (figures ≡ splice 2 (take j counts) (empty arrived greatest))
 
-abbrev decreases-loop : tie.decreases-loop
-decreases-loop arrived greatest counts figures₀ j₀ figures j = step_count - j
+abbrev decreases-loop-j : tie.decreases-loop-j
+decreases-loop-j arrived greatest counts figures₀ j₀ figures j = step_count - j
 
 -- after the loop the counts are all there, and nothing after them
 told : (arrived greatest : ℕ) (counts figures : List ℕ) → length counts ≡ step_count
@@ -30,34 +30,34 @@ told arrived greatest counts figures n e =
     let none : drop (2 + length counts) (empty arrived greatest) ≡ [] = rw n refl in
     e ∙ ap (λ (l : List ℕ). arrived ∷ greatest ∷ (counts ++ l)) none ∙ ap (λ (l : List ℕ). arrived ∷ greatest ∷ l) (append-nil counts)
 
-loop-holds : tie.Need-loop-init invariant-loop decreases-loop
-loop-holds c = (omega arith, copy_start 2 c.args.t3 (empty c.args.arrived c.args.greatest))
+loop-holds : tie.Need-loop-j-init invariant-loop-j decreases-loop-j
+loop-holds c = (omega arith, copy_start 2 c.args.counts (empty c.args.arrived c.args.greatest))
 
-loop-again : tie.Need-loop-preserved invariant-loop decreases-loop
+loop-again : tie.Need-loop-j-preserved invariant-loop-j decreases-loop-j
 loop-again c =
-    let l = c.before.before.loop in
-    let s = c.before.before.before in
-    let h = c.before.loop-test.true in (
+    let l = c.loop-j in
+    let s = c in
+    let h = c.loop-j-test.true in (
       omega (arith, h),
-      copy-next 2 s.args.t3 (empty s.args.arrived s.args.greatest) l.j 0 (omega (arith, h, s.requires)) (omega (arith, h))
+      copy-next 2 s.args.counts (empty s.args.arrived s.args.greatest) l.j 0 (omega (arith, h, s.requires)) (omega (arith, h))
           l.invariant.1 c.wide.ensures,
     )
 
-returns : tie.Need-returns invariant-loop decreases-loop
+returns : tie.Need-returns invariant-loop-j decreases-loop-j
 returns c =
-    let l = c.before.loop in
-    let s = c.before.before in
+    let l = c.loop-j in
+    let s = c in
     let n = s.requires in
     let a = s.args in
-    let e = copy_done 2 a.t3 (empty a.arrived a.greatest) l.j (omega (arith, n, c.loop-test.false)) l.invariant.1 in
-    told a.arrived a.greatest a.t3 l.figures n e
+    let e = copy_done 2 a.counts (empty a.arrived a.greatest) l.j (omega (arith, n, c.loop-j-test.false)) l.invariant.1 in
+    told a.arrived a.greatest a.counts l.figures n e
 
-pub step-figures-spec : {M : Type 1} → statement M
-step-figures-spec =
+pub step_figures_spec : {M : Type 1} → statement M
+step_figures_spec =
     tie.close
     (tie.spec
-    invariant-loop
-    decreases-loop
+    invariant-loop-j
+    decreases-loop-j
     (λ c. search rules)
     (λ c. search rules)
     loop-holds

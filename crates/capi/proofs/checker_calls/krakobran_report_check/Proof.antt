@@ -5,10 +5,10 @@ use Rattle.capi.proofs.checker_calls.krakobran_report_check.Statement.{statement
 use Rattle.capi.proofs.checker_calls.krakobran_report_check.Tie as tie
 
 returns : tie.Need-returns
-returns c = (simp c.before.before.check.ensures.0, simp (c.before.verdict-figures.ensures, c.before.before.check.ensures.0))
+returns c = (simp c.check-found.ensures.0, simp (c.verdict_figures.ensures, c.check-found.ensures.0))
 
-pub krakobran-report-check-spec : {M : Type 1} → statement M
-krakobran-report-check-spec =
+pub krakobran_report_check_spec : {M : Type 1} → statement M
+krakobran_report_check_spec =
     tie.close
     (tie.spec
     (λ c κs. search rules) (λ c κs. search rules) (λ c. search rules) returns)

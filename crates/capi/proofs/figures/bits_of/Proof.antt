@@ -24,11 +24,11 @@ no_nan nan same = subst T (sym nan_differs ∙ same) tt
 no_nan (inf s) same = tt
 no_nan (fin s m e) same = tt
 
-returns : tie.Need-returns
-returns c = only_nan _ c.if1.true
+returns : tie.Need-returns-then-x
+returns c = only_nan _ c.if-x.true
 
-float-to-bits-result : tie.Need-float-to-bits-result
-float-to-bits-result c = no_nan _ c.if1.false
+float-to-bits-result : tie.Need-float_to_bits-result
+float-to-bits-result c = no_nan _ c.if-x.false
 
-pub bits-of-spec : {M : Type 1} → statement M
-bits-of-spec = tie.close (tie.spec returns float-to-bits-result (λ c. search rules))
+pub bits_of_spec : {M : Type 1} → statement M
+bits_of_spec = tie.close (tie.spec returns float-to-bits-result (λ c. search rules))

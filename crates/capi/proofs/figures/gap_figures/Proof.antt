@@ -4,11 +4,11 @@ use mathlib.Core.Path.{refl}
 use Rattle.capi.proofs.figures.gap_figures.Statement.{statement}
 use Rattle.capi.proofs.figures.gap_figures.Tie as tie
 
-returns-2 : tie.Need-returns-2
-returns-2 c = rw c.before.gap.given.1 refl
+returns-2 : tie.Need-returns-in-Positions
+returns-2 c = rw c.in-Positions.is refl
 
-pub gap-figures-spec : {M : Type 1} → statement M
-gap-figures-spec =
+pub gap_figures_spec : {M : Type 1} → statement M
+gap_figures_spec =
     tie.close
     (tie.spec
     (λ c. search rules) (λ c. search rules) (λ c. search rules) (λ c. search rules) returns-2)

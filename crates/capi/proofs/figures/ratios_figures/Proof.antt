@@ -4,13 +4,13 @@ use borrow.Author.Rules.{rules}
 use Rattle.capi.proofs.figures.ratios_figures.Statement.{statement}
 use Rattle.capi.proofs.figures.ratios_figures.Tie as tie
 
-returns-2 : tie.Need-returns-2
+returns-2 : tie.Need-returns-in-Known
 returns-2 c =
-    rw c.before.before.before.before.ratios.given.1
-    (simp (c.bits-of3.ensures, c.before.bits-of2.ensures, c.before.before.bits_of.ensures))
+    rw c.in-Known.is
+    (simp (c.bits_of-in-Known-2.ensures, c.bits_of-in-Known.ensures, c.bits_of.ensures))
 
-pub ratios-figures-spec : {M : Type 1} → statement M
-ratios-figures-spec =
+pub ratios_figures_spec : {M : Type 1} → statement M
+ratios_figures_spec =
     tie.close
     (tie.spec
     (λ c. search rules) (λ c. search rules) (λ c κs. search rules) (λ c κs. search rules) (λ c κs. search rules)

@@ -6,38 +6,38 @@ use Rattle.capi.specs.Outcomes.{same_figures}
 use Rattle.capi.proofs.follow_calls.are_figures.Statement.{statement}
 use Rattle.capi.proofs.follow_calls.are_figures.Tie as tie
 
-returns : tie.Need-returns
+returns : tie.Need-returns-then-figures-kind
 unfolding same_figures
-returns c = rw (← c.before.noted-figures.ensures, ne_eqb _ _ c.if1.true) refl
+returns c = rw (← c.noted_figures-figures.ensures, ne_eqb _ _ c.if-figures-kind.true) refl
 
-returns-2 : tie.Need-returns-2
+returns-2 : tie.Need-returns-then-figures-jump
 unfolding same_figures
-returns-2 c = rw (← c.before.before.noted-figures.ensures, eq-eqb _ _ c.before.if1.false, ne_eqb _ _ c.if2.true) refl
+returns-2 c = rw (← c.noted_figures-figures.ensures, eq-eqb _ _ c.if-figures-kind.false, ne_eqb _ _ c.if-figures-jump.true) refl
 
-returns-3 : tie.Need-returns-3
+returns-3 : tie.Need-returns-then-figures-extent
 unfolding same_figures
 returns-3 c =
-    let first = c.before.before in
+    let first = c in
     rw (
-      ← first.before.noted-figures.ensures,
-      eq-eqb _ _ first.if1.false,
-      eq-eqb _ _ c.before.if2.false,
-      ne_eqb _ _ c.if3.true,
+      ← first.noted_figures-figures.ensures,
+      eq-eqb _ _ first.if-figures-kind.false,
+      eq-eqb _ _ c.if-figures-jump.false,
+      ne_eqb _ _ c.if-figures-extent.true,
     ) refl
 
-returns-4 : tie.Need-returns-4
+returns-4 : tie.Need-returns
 unfolding same_figures
 returns-4 c =
-    let first = c.before.before in
+    let first = c in
     rw (
-      ← first.before.noted-figures.ensures,
-      eq-eqb _ _ first.if1.false,
-      eq-eqb _ _ c.before.if2.false,
-      eq-eqb _ _ c.if3.false,
+      ← first.noted_figures-figures.ensures,
+      eq-eqb _ _ first.if-figures-kind.false,
+      eq-eqb _ _ c.if-figures-jump.false,
+      eq-eqb _ _ c.if-figures-extent.false,
     ) refl
 
-pub are-figures-spec : {M : Type 1} → statement M
-are-figures-spec =
+pub are_figures_spec : {M : Type 1} → statement M
+are_figures_spec =
     tie.close
     (tie.spec
     (λ c κs. search rules) (λ c. search rules) returns (λ c. search rules) returns-2 (λ c. search rules) returns-3

@@ -8,8 +8,8 @@ use Rattle.capi.proofs.follow_calls.krakobran_follow_counts.Tie as tie
 
 returns : tie.Need-returns
 unfolding counts_text
-returns c = (c.before.before.before.before.before.counts.ensures.0, λ s. refl)
+returns c = (c.counts-written.ensures.0, λ s. refl)
 
-pub krakobran-follow-counts-spec : {M : Type 1} → statement M
-krakobran-follow-counts-spec =
+pub krakobran_follow_counts_spec : {M : Type 1} → statement M
+krakobran_follow_counts_spec =
     tie.close (tie.spec (λ c κs. search rules) (λ c. search rules) (λ c. search rules) (λ c. search rules) returns)

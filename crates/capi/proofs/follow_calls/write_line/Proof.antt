@@ -6,53 +6,53 @@ use Rattle.capi.proofs.Followed.{over-refusal, over-jump, over-extent, by-figure
 use Rattle.capi.proofs.follow_calls.write_line.Statement.{statement}
 use Rattle.capi.proofs.follow_calls.write_line.Tie as tie
 
-returns : tie.Need-returns
+returns : tie.Need-returns-then-read-ne0
 returns c =
-    let o = c.before.before.before.before in
-    line_refused _ _ _ o.before.if1.true _ o.refused-outcome.ensures c.before.before.line-text.ensures.0
+    let o = c in
+    line_refused _ _ _ o.if-read-ne0.true _ o.refused_outcome.ensures c.line_text.ensures.0
 
-returns-2 : tie.Need-returns-2
+returns-2 : tie.Need-returns-then-refusal-gt-MAX_32
 returns-2 c =
-    let t = c.before.before in
-    let a = t.before.before.before.args in
-    line-unknown _ _ _ t.if1.false (over-refusal _ _ _ _ _ c.before.if2.true) _ c.no-outcome.ensures a.out.now
+    let t = c in
+    let a = t.args in
+    line-unknown _ _ _ t.if-read-ne0.false (over-refusal _ _ _ _ _ c.if-refusal-gt-MAX_32.true) _ c.no_outcome.ensures a.out.now
 
-returns-3 : tie.Need-returns-3
+returns-3 : tie.Need-returns-then-jump-gt-MAX_32
 returns-3 c =
-    let t = c.before.before in
-    let a = t.before.before.before.before.args in
-    line-unknown _ _ _ t.before.if1.false (over-jump _ _ _ _ _ t.if2.false c.before.if3.true) _ c.no-outcome2.ensures
+    let t = c in
+    let a = t.args in
+    line-unknown _ _ _ t.if-read-ne0.false (over-jump _ _ _ _ _ t.if-refusal-gt-MAX_32.false c.if-jump-gt-MAX_32.true) _ c.no_outcome-then-jump-gt-MAX_32.ensures
     a.out.now
 
-returns-4 : tie.Need-returns-4
+returns-4 : tie.Need-returns-then-extent-gt-MAX_32
 returns-4 c =
-    let t = c.before.before in
-    let a = t.before.before.before.before.before.args in
-    line-unknown _ _ _ t.before.before.if1.false
-    (over-extent _ _ _ _ _ t.before.if2.false t.if3.false c.before.if4.true) _ c.no-outcome3.ensures a.out.now
+    let t = c in
+    let a = t.args in
+    line-unknown _ _ _ t.if-read-ne0.false
+    (over-extent _ _ _ _ _ t.if-refusal-gt-MAX_32.false t.if-jump-gt-MAX_32.false c.if-extent-gt-MAX_32.true) _ c.no_outcome-then-extent-gt-MAX_32.ensures a.out.now
 
-returns-5 : tie.Need-returns-5
+returns-5 : tie.Need-returns-then-are_figures
 returns-5 c =
-    let t = c.before.before.before.before in
-    let n = t.before.before in
-    let two = n.before.before.before in
-    let same = by-figures _ _ _ _ _ two.if2.false n.before.before.if3.false n.before.if4.false _ n.noted_in.ensures in
-    line_known _ _ _ two.before.if1.false (sym same ∙ sym t.before.are-figures.ensures ∙ t.if5.true) _
-    (λ i. record { refusal = two.before.before.before.before.args.refusal; noted = n.noted_in.ensures i })
-    c.before.before.line-text2.ensures.0
+    let t = c in
+    let n = t in
+    let two = n in
+    let same = by-figures _ _ _ _ _ two.if-refusal-gt-MAX_32.false n.if-jump-gt-MAX_32.false n.if-extent-gt-MAX_32.false _ n.noted_in-noted.ensures in
+    line_known _ _ _ two.if-read-ne0.false (sym same ∙ sym t.are_figures.ensures ∙ t.if-are_figures.true) _
+    (λ i. record { refusal = two.args.refusal; noted = n.noted_in-noted.ensures i })
+    c.line_text-then-are_figures.ensures.0
 
-returns-6 : tie.Need-returns-6
+returns-6 : tie.Need-returns
 returns-6 c =
-    let t = c.before in
-    let n = t.before.before in
-    let two = n.before.before.before in
-    let a = two.before.before.before.before.args in
-    let same = by-figures _ _ _ _ _ two.if2.false n.before.before.if3.false n.before.if4.false _ n.noted_in.ensures in
-    line-unknown _ _ _ two.before.if1.false (sym same ∙ sym t.before.are-figures.ensures ∙ t.if5.false) _
-    c.no-outcome4.ensures a.out.now
+    let t = c in
+    let n = t in
+    let two = n in
+    let a = two.args in
+    let same = by-figures _ _ _ _ _ two.if-refusal-gt-MAX_32.false n.if-jump-gt-MAX_32.false n.if-extent-gt-MAX_32.false _ n.noted_in-noted.ensures in
+    line-unknown _ _ _ two.if-read-ne0.false (sym same ∙ sym t.are_figures.ensures ∙ t.if-are_figures.false) _
+    c.no_outcome-2.ensures a.out.now
 
-pub write-line-spec : {M : Type 1} → statement M
-write-line-spec =
+pub write_line_spec : {M : Type 1} → statement M
+write_line_spec =
     tie.close
     (tie.spec
     (λ c κs. search rules) (λ c κs. search rules) (λ c. search rules) returns (λ c κs. search rules) returns-2 (λ c κs. search rules)

@@ -6,7 +6,7 @@ use Rattle.capi.proofs.line_faults_calls.krakobran_log_line_fault.Statement.{sta
 use Rattle.capi.proofs.line_faults_calls.krakobran_log_line_fault.Tie as tie
 
 returns : tie.Need-returns
-returns c = c.fault-number.ensures ∙ ap fault_number c.before.line-fault.ensures.0
+returns c = c.fault_number.ensures ∙ ap fault_number c.line_fault.ensures.0
 
-pub krakobran-log-line-fault-spec : {M : Type 1} → statement M
-krakobran-log-line-fault-spec = tie.close (tie.spec (λ c κs. search rules) (λ c κs. search rules) returns)
+pub krakobran_log_line_fault_spec : {M : Type 1} → statement M
+krakobran_log_line_fault_spec = tie.close (tie.spec (λ c κs. search rules) (λ c κs. search rules) returns)

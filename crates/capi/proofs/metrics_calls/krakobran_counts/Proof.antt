@@ -5,10 +5,10 @@ use Rattle.capi.proofs.metrics_calls.krakobran_counts.Tie as tie
 
 returns : tie.Need-returns
 returns c = (
-  simp c.before.before.before.counts.ensures,
+  simp c.counts-found.ensures,
   simp
-      (c.before.count-figures.ensures, c.before.before.before.counts.ensures),
+      (c.count_figures.ensures, c.counts-found.ensures),
 )
 
-pub krakobran-counts-spec : {M : Type 1} → statement M
-krakobran-counts-spec = tie.close (tie.spec (λ c κs. search rules) (λ c κs. search rules) (λ c. search rules) returns)
+pub krakobran_counts_spec : {M : Type 1} → statement M
+krakobran_counts_spec = tie.close (tie.spec (λ c κs. search rules) (λ c κs. search rules) (λ c. search rules) returns)

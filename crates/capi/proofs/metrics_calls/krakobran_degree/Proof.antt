@@ -4,7 +4,7 @@ use Rattle.capi.proofs.metrics_calls.krakobran_degree.Statement.{statement}
 use Rattle.capi.proofs.metrics_calls.krakobran_degree.Tie as tie
 
 returns : tie.Need-returns
-returns c = (simp c.before.before.degree.ensures, simp (c.before.degree-figures.ensures, c.before.before.degree.ensures))
+returns c = (simp c.degree-found.ensures, simp (c.degree_figures.ensures, c.degree-found.ensures))
 
-pub krakobran-degree-spec : {M : Type 1} → statement M
-krakobran-degree-spec = tie.close (tie.spec (λ c κs. search rules) (λ c κs. search rules) (λ c. search rules) returns)
+pub krakobran_degree_spec : {M : Type 1} → statement M
+krakobran_degree_spec = tie.close (tie.spec (λ c κs. search rules) (λ c κs. search rules) (λ c. search rules) returns)

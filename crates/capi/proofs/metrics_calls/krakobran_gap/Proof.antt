@@ -4,7 +4,7 @@ use Rattle.capi.proofs.metrics_calls.krakobran_gap.Statement.{statement}
 use Rattle.capi.proofs.metrics_calls.krakobran_gap.Tie as tie
 
 returns : tie.Need-returns
-returns c = (simp c.before.before.gap.ensures, simp (c.before.gap-figures.ensures, c.before.before.gap.ensures))
+returns c = (simp c.gap-found.ensures, simp (c.gap_figures.ensures, c.gap-found.ensures))
 
-pub krakobran-gap-spec : {M : Type 1} → statement M
-krakobran-gap-spec = tie.close (tie.spec (λ c κs. search rules) (λ c κs. search rules) (λ c. search rules) returns)
+pub krakobran_gap_spec : {M : Type 1} → statement M
+krakobran_gap_spec = tie.close (tie.spec (λ c κs. search rules) (λ c κs. search rules) (λ c. search rules) returns)

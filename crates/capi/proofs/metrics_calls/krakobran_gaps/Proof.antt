@@ -7,8 +7,8 @@ use Rattle.capi.proofs.metrics_calls.krakobran_gaps.Tie as tie
 
 returns : tie.Need-returns
 returns c =
-    let e = c.before.before.before.record-gaps.ensures.0 in
+    let e = c.record_gaps-layout.ensures.0 in
     (ap (λ (y : Layout). y.refusal) e.layout, e.gaps)
 
-pub krakobran-gaps-spec : {M : Type 1} → statement M
-krakobran-gaps-spec = tie.close (tie.spec (λ c κs. search rules) (λ c. search rules) (λ c. search rules) returns)
+pub krakobran_gaps_spec : {M : Type 1} → statement M
+krakobran_gaps_spec = tie.close (tie.spec (λ c κs. search rules) (λ c. search rules) (λ c. search rules) returns)

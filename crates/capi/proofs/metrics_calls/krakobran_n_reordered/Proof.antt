@@ -4,10 +4,10 @@ use Rattle.capi.proofs.metrics_calls.krakobran_n_reordered.Statement.{statement}
 use Rattle.capi.proofs.metrics_calls.krakobran_n_reordered.Tie as tie
 
 returns : tie.Need-returns
-returns c = (simp c.before.before.before.before.n-reordered.ensures, simp c.before.before.before.before.n-reordered.ensures)
+returns c = (simp c.n_reordered-found.ensures, simp c.n_reordered-found.ensures)
 
-pub krakobran-n-reordered-spec : {M : Type 1} → statement M
-krakobran-n-reordered-spec =
+pub krakobran_n_reordered_spec : {M : Type 1} → statement M
+krakobran_n_reordered_spec =
     tie.close
     (tie.spec
     (λ c κs. search rules) (λ c. search rules) (λ c. search rules) (λ c. search rules) returns)

@@ -4,7 +4,7 @@ use Rattle.capi.proofs.metrics_calls.krakobran_ratios.Statement.{statement}
 use Rattle.capi.proofs.metrics_calls.krakobran_ratios.Tie as tie
 
 returns : tie.Need-returns
-returns c = (simp c.before.before.ratios.ensures, simp (c.before.ratios-figures.ensures, c.before.before.ratios.ensures))
+returns c = (simp c.ratios-found.ensures, simp (c.ratios_figures.ensures, c.ratios-found.ensures))
 
-pub krakobran-ratios-spec : {M : Type 1} → statement M
-krakobran-ratios-spec = tie.close (tie.spec (λ c κs. search rules) (λ c κs. search rules) (λ c. search rules) returns)
+pub krakobran_ratios_spec : {M : Type 1} → statement M
+krakobran_ratios_spec = tie.close (tie.spec (λ c κs. search rules) (λ c κs. search rules) (λ c. search rules) returns)

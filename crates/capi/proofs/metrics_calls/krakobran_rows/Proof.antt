@@ -7,8 +7,8 @@ use Rattle.capi.proofs.metrics_calls.krakobran_rows.Tie as tie
 
 returns : tie.Need-returns
 returns c =
-    let e = c.before.before.before.record-rows.ensures.0 in
+    let e = c.record_rows-layout.ensures.0 in
     (ap (λ (y : Layout). y.refusal) e.layout, e.rows)
 
-pub krakobran-rows-spec : {M : Type 1} → statement M
-krakobran-rows-spec = tie.close (tie.spec (λ c κs. search rules) (λ c. search rules) (λ c. search rules) returns)
+pub krakobran_rows_spec : {M : Type 1} → statement M
+krakobran_rows_spec = tie.close (tie.spec (λ c κs. search rules) (λ c. search rules) (λ c. search rules) returns)

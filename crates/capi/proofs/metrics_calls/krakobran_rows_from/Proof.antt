@@ -7,8 +7,8 @@ use Rattle.capi.proofs.metrics_calls.krakobran_rows_from.Tie as tie
 
 returns : tie.Need-returns
 returns c =
-    let e = c.before.before.before.rows-from.ensures in
+    let e = c.rows_from-layout.ensures in
     (ap (λ (y : Layout). y.refusal) e.layout, e.rows)
 
-pub krakobran-rows-from-spec : {M : Type 1} → statement M
-krakobran-rows-from-spec = tie.close (tie.spec (λ c κs. search rules) (λ c. search rules) (λ c. search rules) returns)
+pub krakobran_rows_from_spec : {M : Type 1} → statement M
+krakobran_rows_from_spec = tie.close (tie.spec (λ c κs. search rules) (λ c. search rules) (λ c. search rules) returns)

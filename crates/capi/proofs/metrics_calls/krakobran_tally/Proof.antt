@@ -4,7 +4,7 @@ use Rattle.capi.proofs.metrics_calls.krakobran_tally.Statement.{statement}
 use Rattle.capi.proofs.metrics_calls.krakobran_tally.Tie as tie
 
 returns : tie.Need-returns
-returns c = (simp c.before.before.tally.ensures, simp c.before.before.tally.ensures)
+returns c = (simp c.tally-found.ensures, simp c.tally-found.ensures)
 
-pub krakobran-tally-spec : {M : Type 1} → statement M
-krakobran-tally-spec = tie.close (tie.spec (λ c κs. search rules) (λ c. search rules) returns)
+pub krakobran_tally_spec : {M : Type 1} → statement M
+krakobran_tally_spec = tie.close (tie.spec (λ c κs. search rules) (λ c. search rules) returns)

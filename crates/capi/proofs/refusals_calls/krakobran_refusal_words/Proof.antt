@@ -17,12 +17,12 @@ alike m n {old} {new} {answer} e f o =
 
 returns : tie.Need-returns
 returns c =
-    let words = c.before.before.before.before.before in
-    let n = words.before.before in
-    alike n.narrow.result n.before.before.args.refusal n.narrow.ensures.0 n.narrow.ensures.1 words.words.ensures.0
+    let words = c in
+    let n = words in
+    alike n.narrow.result n.args.refusal n.narrow.ensures.0 n.narrow.ensures.1 words.words-written.ensures.0
 
-pub krakobran-refusal-words-spec : {M : Type 1} → statement M
-krakobran-refusal-words-spec =
+pub krakobran_refusal_words_spec : {M : Type 1} → statement M
+krakobran_refusal_words_spec =
     tie.close
     (tie.spec
     (λ c κs. search rules) (λ c κs. search rules) (λ c. search rules) (λ c. search rules) (λ c. search rules) returns)

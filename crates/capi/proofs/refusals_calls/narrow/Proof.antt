@@ -17,11 +17,11 @@ past n h =
     let long : length all_words ≤ n = omega (arith, h) in
     (rw (le-leb 1 n (omega (arith, h)), lt-leb n 18 h) refl, sym (get_or-eq_default all_words [] long))
 
-returns : tie.Need-returns
-returns c = past _ c.if1.true
+returns : tie.Need-returns-then-refusal-gt-MAX_REFUSAL
+returns c = past _ c.if-refusal-gt-MAX_REFUSAL.true
 
-returns-2 : tie.Need-returns-2
+returns-2 : tie.Need-returns
 returns-2 c = (refl, refl)
 
-pub narrow-spec : {M : Type 1} → statement M
-narrow-spec = tie.close (tie.spec returns (λ c. search rules) returns-2)
+pub narrow_spec : {M : Type 1} → statement M
+narrow_spec = tie.close (tie.spec returns (λ c. search rules) returns-2)

@@ -4,10 +4,10 @@ use Rattle.capi.proofs.sample_calls.krakobran_sample_check.Statement.{statement}
 use Rattle.capi.proofs.sample_calls.krakobran_sample_check.Tie as tie
 
 returns : tie.Need-returns
-returns c = (simp c.before.before.check.ensures.0, simp (c.before.layout-figures.ensures, c.before.before.check.ensures.0))
+returns c = (simp c.check-found.ensures.0, simp (c.layout_figures.ensures, c.check-found.ensures.0))
 
-pub krakobran-sample-check-spec : {M : Type 1} → statement M
-krakobran-sample-check-spec =
+pub krakobran_sample_check_spec : {M : Type 1} → statement M
+krakobran_sample_check_spec =
     tie.close
     (tie.spec
     (λ c κs. search rules) (λ c κs. search rules) (λ c. search rules) returns)

@@ -4,10 +4,10 @@ use Rattle.capi.proofs.sample_calls.krakobran_sample_label.Statement.{statement}
 use Rattle.capi.proofs.sample_calls.krakobran_sample_label.Tie as tie
 
 returns : tie.Need-returns
-returns c = (simp c.before.before.before.before.label-part.ensures, simp c.before.before.before.before.label-part.ensures)
+returns c = (simp c.label_part-found.ensures, simp c.label_part-found.ensures)
 
-pub krakobran-sample-label-spec : {M : Type 1} → statement M
-krakobran-sample-label-spec =
+pub krakobran_sample_label_spec : {M : Type 1} → statement M
+krakobran_sample_label_spec =
     tie.close
     (tie.spec
     (λ c κs. search rules) (λ c. search rules) (λ c. search rules) (λ c. search rules) returns)

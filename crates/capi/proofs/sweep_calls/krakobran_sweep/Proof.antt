@@ -9,10 +9,10 @@ use Rattle.capi.proofs.sweep_calls.krakobran_sweep.Tie as tie
 
 -- ---- places in the code: after the list of extents has come back, and after the sweep
 
-abbrev after-extents : tie.After-struct-known → tie.After-extents
+abbrev after-extents : tie.After-struct_known-1 → tie.After-extents-1
 after-extents c = c.before.before.before.before
 
-abbrev at-sweep : tie.After-extents → tie.After-sweep
+abbrev at-sweep : tie.After-extents-1 → tie.After-sweep-layout
 at-sweep c = c.before.before.before.before.before.before.before
 
 -- the refusal of the layout that the sweep returns, and the rest as the sweep leaves it
@@ -31,10 +31,10 @@ swept d old new answer e = (
 )
 
 returns : tie.Need-returns
-returns c = swept _ _ _ _ (at-sweep (after-extents c)).sweep.ensures.0
+returns c = swept _ _ _ _ (at-sweep (after-extents c)).sweep-layout.ensures.0
 
-pub krakobran-sweep-spec : {M : Type 1} → statement M
-krakobran-sweep-spec =
+pub krakobran_sweep_spec : {M : Type 1} → statement M
+krakobran_sweep_spec =
     tie.close
     (tie.spec
     (λ c κs. search rules) (λ c. search rules) (λ c. search rules) (λ c. search rules) (λ c. search rules)

@@ -7,7 +7,7 @@ use Rattle.capi.proofs.text_lines_calls.krakobran_text_line.Statement.{statement
 use Rattle.capi.proofs.text_lines_calls.krakobran_text_line.Tie as tie
 
 returns : tie.Need-returns
-returns c = ap line_figures c.before.line-part.ensures.0
+returns c = ap line_figures c.line_part-found.ensures.0
 
-pub krakobran-text-line-spec : {M : Type 1} → statement M
-krakobran-text-line-spec = tie.close (tie.spec (λ c κs. search rules) returns)
+pub krakobran_text_line_spec : {M : Type 1} → statement M
+krakobran_text_line_spec = tie.close (tie.spec (λ c κs. search rules) returns)

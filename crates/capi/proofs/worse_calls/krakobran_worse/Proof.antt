@@ -15,8 +15,8 @@ told a b x e = ap (λ (y : Comparison). link_figures y.link a b) e
 
 returns : tie.Need-returns
 returns c =
-    let e = c.before.before.compare.ensures in
-    (ap (λ (y : Comparison). y.refusal) e, c.before.link-figures.ensures ∙ told _ _ _ e)
+    let e = c.compare-comparison.ensures in
+    (ap (λ (y : Comparison). y.refusal) e, c.link_figures.ensures ∙ told _ _ _ e)
 
-pub krakobran-worse-spec : {M : Type 1} → statement M
-krakobran-worse-spec = tie.close (tie.spec (λ c κs. search rules) (λ c κs. search rules) (λ c. search rules) returns)
+pub krakobran_worse_spec : {M : Type 1} → statement M
+krakobran_worse_spec = tie.close (tie.spec (λ c κs. search rules) (λ c κs. search rules) (λ c. search rules) returns)

@@ -21,25 +21,25 @@ first l a b p e f = rw (e, f) refl
 second : (l : Link) (a b : Decoded) (p : LabelPart) → l ≡ Second → p ≡ label_part b → (2 ∷ p.start ∷ p.length ∷ []) ≡ link_figures l a b
 second l a b p e f = rw (e, f) refl
 
-returns : tie.Need-returns
+returns : tie.Need-returns-in-Refused
 returns c =
-    let a = c.before.before.before.before.args in
-    refused a.link (decode a.first.now) (decode a.second.now) (search c.enum_told.given)
+    let a = c.args in
+    refused a.link (decode a.first.now) (decode a.second.now) c.in-Refused.is
 
-returns-2 : tie.Need-returns-2
+returns-2 : tie.Need-returns-in-First
 returns-2 c =
-    let a = c.before.before.before.before.before.before.before.args in
-    first a.link (decode a.first.now) (decode a.second.now) _ (search c.before.before.before.enum-told2.given)
-    c.before.before.label-part.ensures
+    let a = c.args in
+    first a.link (decode a.first.now) (decode a.second.now) _ c.in-First.is
+    c.label_part-part.ensures
 
-returns-3 : tie.Need-returns-3
+returns-3 : tie.Need-returns-in-Second
 returns-3 c =
-    let a = c.before.before.before.before.before.before.before.args in
-    second a.link (decode a.first.now) (decode a.second.now) _ (search c.before.before.before.enum-told3.given)
-    c.before.before.label-part2.ensures
+    let a = c.args in
+    second a.link (decode a.first.now) (decode a.second.now) _ c.in-Second.is
+    c.label_part-part-in-Second.ensures
 
-pub link-figures-spec : {M : Type 1} → statement M
-link-figures-spec =
+pub link_figures_spec : {M : Type 1} → statement M
+link_figures_spec =
     tie.close
     (tie.spec
     (λ c. search rules) (λ c. search rules) (λ c κs. search rules) (λ c. search rules) (λ c. search rules)
