@@ -33,7 +33,8 @@ SOVERSION = $(if $(filter 0,$(MAJOR)),0.$(word 2,$(subst ., ,$(VERSION))),$(MAJO
 EXAMPLES = target/feed target/figures
 TOOLS = cmd_report cmd_table cmd_refusal cmd_summary cmd_import cmd_export cmd_check cmd_worse cmd_picture cmd_follow
 PROGRAMS = $(TOOLS:%=target/bin/%)
-SOURCES := crates.txt $(shell find crates -type f)
+# What the kit keeps of a crate stands in its folder out.
+SOURCES := crates.txt $(shell find crates -name out -prune -o -type f -print)
 DIST = krakobran-$(VERSION)-x86_64
 
 # FROM TO: the path of TO, seen from FROM, so that an installed tree can be moved.
@@ -42,8 +43,8 @@ relative = $(shell realpath -m --relative-to='$(1)' '$(2)')
 # What the pkg-config file calls the prefix; that of `make dist` is found from the file itself.
 PCPREFIX = $(PREFIX)
 
-# One target at a time: rt takes the processors itself, and two runs of it would share target/. So rt runs under the lock that the
-# command takes when it builds a program, where there is flock.
+# One target at a time: rt takes the processors itself, and two runs of it would prove the same crates. So rt runs under the lock that
+# the command takes when it builds a program, where there is flock.
 .NOTPARALLEL:
 LOCKED := $(if $(shell command -v flock),flock -o target/lock)
 
@@ -52,15 +53,15 @@ all: $(LIBRARY) $(SHARED) $(EXAMPLES) $(PROGRAMS)
 target:
 	mkdir -p $@
 
-# One run proves and builds all programs.
+# One run proves and builds all programs. Each library is proved once.
 $(PROGRAMS): target/programs
-target/programs: $(SOURCES) | target
-	$(LOCKED) rt check $(TOOLS)
+target/programs: $(SOURCES) tools/program.sh | target
+	$(LOCKED) tools/program.sh $(TOOLS)
 	touch $(PROGRAMS) $@
 
 $(LIBRARY): $(filter %.txt %.rt %.antt,$(SOURCES)) | target
-	$(LOCKED) rt staticlib capi
-	cp target/staticlib/libcapi.a $@
+	cd crates/capi && $(LOCKED:target/%=../../target/%) rt lib
+	cp crates/capi/out/libcapi.a $@
 
 # The archive's code does not depend on where it stands (-z text would refuse it), so the shared object is made of it.
 $(SHARED): $(LIBRARY)
@@ -188,7 +189,7 @@ time: cargo $(LIBRARY)
 	$(CARGO) time
 
 clean:
-	rm -rf target bench/target
+	rm -rf target bench/target crates/*/out
 
 # Says in one line that cargo is missing, before anything is built.
 cargo:

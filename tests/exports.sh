@@ -23,7 +23,7 @@ check() {
 }
 
 # name: type, .. in Rattle
-cat "$root"/crates/capi/src/*.rt | tr '\n' ' ' | sed 's/#\[no_mangle\] *pub extern "C" fn /\n@/g' |
+cat "$root"/crates/capi/src/*.rt | tr '\n' ' ' | sed 's/#\[unsafe(no_mangle)\] *pub extern "C" fn /\n@/g' |
     sed -n 's/^@\([a-z0-9_]*\)(\([^)]*\)) *\(-> *\([^ ]*\)\)\{0,1\} .*/\1|\2|\4/p' | sed 's/[a-z0-9_]*: *//g' > "$work/source"
 check crates/capi/src 'u16|u32|u64|&(mut )?\[u(8|16|32|64)\]|&(mut )?\[u(32|64); [A-Z0-9_:]+\]|&mut (Receiver|Meter)' 'u64|' \
     < "$work/source" || bad=1

@@ -41,7 +41,7 @@ class Module:
         for line in read(path).split('\n'):
             if line.strip().startswith('--'):
                 continue
-            use = re.match(r'(?:unfoldable |abbrev |pub )*use Rattle·(\w+?)(?:·specs|·proofs)?\.(specs|proofs)\.([\w.-]+?)(?:\.\{(.*)\}| as (\S+))?$', line)
+            use = re.match(r'(?:unfoldable |abbrev |pub )*use Rattle\.(\w+)\.(specs|proofs)\.([\w.-]+?)(?:\.\{(.*)\}| as (\S+))?$', line)
             if use:
                 for item in (use.group(4) or '').split(','):
                     first, _, last = item.strip().partition(' as ')
@@ -102,14 +102,28 @@ def reached(nodes):
 
 # ---- the contracts: for each function of src/ its `ensures` by their names, '' for the first
 
+
+
+def clauses(part, word):
+    """The clauses of a function by their names, '' for none: what stands in the brackets after the word, to the one that closes them."""
+    found = []
+    for start in re.finditer(r'\n +%s( \w+)? \{' % word, part):
+        depth, end = 1, start.end()
+        while depth:
+            depth += {'{': 1, '}': -1}.get(part[end], 0)
+            end += 1
+        found.append(((start.group(1) or '').strip(), part[start.end():end - 1]))
+    return found
+
+
 functions = {}
 public = set()
 for path in sorted(glob.glob('crates/*/src/**/*.rt', recursive=True)):
     crate, place = re.match(r'crates/(\w+)/src/(.*)\.rt$', path).groups()
     text = read(path)
     uses = {}
-    for target, listed in re.findall(r'ghost use Rattle·([\w·.-]+?)\.\{(.*?)\};', text):
-        where = re.match(r'(\w+?)(?:·specs|·proofs)?\.specs\.(.*)', target)
+    for target, listed in re.findall(r'ghost use Rattle\.([\w.-]+?)\.\{(.*?)\};', text, re.S):
+        where = re.match(r'(\w+)\.specs\.(.*)', target)
         for item in listed.split(',') if where else ():
             first, _, last = item.strip().partition(' as ')
             uses[last or first] = (where.group(1), 'specs/' + where.group(2).replace('.', '/'), first)
@@ -122,11 +136,11 @@ for path in sorted(glob.glob('crates/*/src/**/*.rt', recursive=True)):
         fn = re.match(r'( *)[\w ()"]*?\bfn (\w+)', part)
         if fn:
             ensures = {}
-            for name, body in re.findall(r'ensures (\w* ?)\{ λ (.*?) ⌝ \}', part, re.S):
+            for name, body in clauses(part, 'ensures'):
                 nodes = [uses[word] for word in words(body) if word in uses]
-                ensures[name.strip()] = {found_in(modules[node[:2]], node[2]) for node in nodes if node[:2] in modules} - {None}
+                ensures[name] = {found_in(modules[node[:2]], node[2]) for node in nodes if node[:2] in modules} - {None}
             if re.match(r' *pub (?:extern "C" )?fn', part):
-                if re.search(r'\n +requires ', part):
+                if clauses(part, 'requires'):
                     wrong.append('%s: %s is public and has a requires' % (path, fn.group(2)))
                 for node in reached(set().union(*ensures.values())):
                     if node[1].startswith('specs/Private'):
