@@ -1,5 +1,5 @@
 -- Products that fit 64 bits. Assumes nothing.
-use Rattle.std.proofs.Common.{ℕ, ◌*◌, ◌/◌, ◌<◌, ◌≤◌, mul-le-mul_right, mul-le-mul, mul-le-mul_left, arith, w64, Fits}
+use Rattle.std.proofs.Common.{ℕ, ◌*◌, ◌/◌, ◌<◌, ◌≤◌, mul-le-mul, mul-le-mul_left, arith, w64, Fits}
 
 -- a number below 2^48 times one up to 10,000
 pub product-fits : (m n : ℕ) → m < 281474976710656 → n ≤ 10000 → Fits w64 (m * n)
