@@ -90,8 +90,11 @@ while read -r target gnu emulator flags; do
     esac
 done < "$out/list"
 
-if command -v python3 > "$out/which"; then
-    compiled=$(while read -r target more; do [ ! -f "$out/$target/level" ] || echo "$target"; done < "$out/list")
+compiled=$(while read -r target more; do [ ! -f "$out/$target/level" ] || echo "$target"; done < "$out/list")
+if [ -z "$compiled" ]; then
+    left=$((left + 1))
+    echo 'left out the table of stack: no target was compiled'
+elif command -v python3 > "$out/which"; then
     if "$cross/stack" "$out" $compiled > "$out/stack.md"; then echo "passed stack: $out/stack.md has the table"; else fail stack; fi
 else
     leave_out 'the table of stack' ' python3'
