@@ -4,8 +4,8 @@
 usage: python3 tools/port/names.py [FOLDER]
 
 FOLDER is the top of the repository, as the kit's port.py left it. Types and modules keep their camel case, and so does what src/ declares.
-A name is respelled in .antt files, in clauses and comments of .rt files, in must-fail edits and in code spans of pages.
-A second run changes nothing. Exit status: 0, or 1 if two names would fall together in a file.
+A name is respelled in .antt and .rt files and must-fail edits, but for strings, and in code spans of pages.
+A second run changes nothing. Exit status: 0, or 1 if two names would fall together; then nothing is changed.
 """
 
 import os
@@ -87,8 +87,10 @@ def outside_strings(text, turn):
 def main(argv):
     top = argv[0] if argv else "."
     table = {n: respelled(n) for n in own_names(top)}
+    if len(set(table.values())) < len(table):
+        print("names.py: two names would fall together", file=sys.stderr)
+        return 1
     word = re.compile(r"[A-Za-z][\w'′]*(?:-[\w'′]+)*")
-    clashes = []
 
     def turn(text):
         def one(m):
@@ -112,7 +114,7 @@ def main(argv):
         elif path.endswith((".rt", ".edit")) and "/" in rel:
             old = read(path)
             new = "\n".join(outside_strings(line, turn) for line in old.split("\n"))
-        elif path.endswith(".md"):
+        elif path.endswith(".md") and os.path.basename(path) != "PORT.md":
             old = read(path)
             new = SPAN.sub(lambda m: turn(m.group(0)), old)
         else:
@@ -120,7 +122,7 @@ def main(argv):
         if new != old:
             with open(path, "w", encoding="utf-8", newline="") as f:
                 f.write(new)
-    return 1 if clashes else 0
+    return 0
 
 
 if __name__ == "__main__":
