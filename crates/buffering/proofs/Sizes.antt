@@ -114,6 +114,10 @@ module _ (m : Measure) (part whole : ℕ) (l : List Answer) (low shift all : ℕ
       not-enough m part whole l (low + (at - 1) * 2 ^ shift)
       (by_count (at - 1) false (omega (arith, n, f.within)) (f.before (at - 1) (omega (arith, n))))
 
+  -- so it is below the high bound
+  pub before-inside : (b : Bounds) → Between m part whole l b → (at ≡ 0 → ⊥) → low + (at - 1) * 2 ^ shift < b.high
+  before-inside b h n = under m part whole l b h (low + (at - 1) * 2 ^ shift) (before-not n)
+
   -- and the size after that is enough, if the index found is one of the counts
   pub after_is : (at ≡ 0 → ⊥) → at < step_count → Enough m part whole l (low + (at - 1) * 2 ^ shift + 2 ^ shift)
   after_is n few =

@@ -13,9 +13,10 @@ ghost use Rattle.buffering.specs.Private.{Between, FirstEnough};
 use metrics::{STEPS, accommodated_steps};
 use rfc4737::Measure;
 use rfc4737::judge::outside;
-use rfc4737::refusal::{ASKED_OUTSIDE, NONE};
+use rfc4737::refusal::{NONE, Refusal};
 
-// The least size of a buffer, and the refusal (0 for none); with a refusal the size is 0.
+// The least size of a buffer, and the refusal (0 for none); with a refusal the size is 0. Both stand side by side, as numbers, since
+// `sample_least` of specs/Least.antt gives both, for C too.
 #[derive(Clone, Copy)]
 #[repr(C)]
 pub struct SampleLeast {
@@ -23,48 +24,47 @@ pub struct SampleLeast {
     pub size: u64,
 }
 
-// Two sizes: all sizes below `low` are too small, and `high` is enough.
+// A share: `part` in `whole`.
 #[derive(Clone, Copy)]
-struct Bounds {
-    pub low: u64,
-    pub high: u64,
+struct Share {
+    part: u32,
+    whole: u32,
 }
 
-// Whether `some` of `all` is a share of at least `part` in `whole`. A product of two numbers of 32 bits fits 64 bits.
-fn enough(part: u32, whole: u32, some: u32, all: u32) -> bool
-    ensures { result ≡ leb (part * all) (whole * some) }
-{
-    let due = part as u64 * all as u64;
-    let given = whole as u64 * some as u64;
-    due <= given
-}
-
-// The index of the first of the counts that is a share of at least `part` in `whole` of `all`; STEPS if none is.
-fn first_enough(counts: &[u32; STEPS], part: u32, whole: u32, all: u32) -> usize
-    ensures { FirstEnough part whole all counts.now result }
-{
-    let mut j: usize = 0;
-    while j < STEPS {
-        if enough(part, whole, counts[j], all) {
-            return j;
-        }
-        j += 1;
+impl Share {
+    // Whether `some` of `all` is at least this share. A product of two numbers of 32 bits fits 64 bits.
+    fn is_reached(self, some: u32, all: u32) -> bool
+        ensures { result ≡ leb (self.part * all) (self.whole * some) }
+    {
+        let due = self.part as u64 * all as u64;
+        let given = self.whole as u64 * some as u64;
+        due <= given
     }
-    j
+
+    // The index of the first of the counts that is at least this share of `all`; STEPS if none is. No Option: the caller goes on from the
+    // size before the one found, which is the last one if none is, so it would turn `None` into STEPS.
+    fn first_reached(self, counts: &[u32; STEPS], all: u32) -> usize
+        ensures { FirstEnough self.part self.whole all counts.now result }
+    {
+        for (j, count) in counts.iter().enumerate() {
+            if self.is_reached(*count, all) {
+                return j;
+            }
+        }
+        STEPS
+    }
 }
 
 // The least shift with which STEPS sizes reach over `distance`. 57 is always enough, as STEPS is 2^7.
 fn shift_for(distance: u64) -> u32
     ensures { (result ≤ 57) × (distance < step_count * 2 ^ result) }
 {
-    let mut shift: u32 = 0;
-    while shift < 57 {
+    for shift in 0..57 {
         if distance >> shift < STEPS as u64 {
             return shift;
         }
-        shift += 1;
     }
-    shift
+    57
 }
 
 // 2^`shift`.
@@ -75,29 +75,37 @@ fn power_of(shift: u32) -> u64
     1u64 << shift
 }
 
-// Closes the bounds in by one pass over the sample, which tries STEPS sizes from `low` on.
-fn narrowed(file: &[u8], measure: Measure, part: u32, whole: u32, b: Bounds) -> Bounds
-    requires { (b.low < b.high) × Between measure part whole (answers_of (decode file.now)) b }
-    ensures { Between measure part whole (answers_of (decode file.now)) result × (result.high - result.low < b.high - b.low) }
-{
-    let low = b.low;
-    let high = b.high;
-    let shift = shift_for(high - low);
-    let steps = accommodated_steps(file, measure, low, shift);
-    let counts = steps.counts;
-    let at = first_enough(&counts, part, whole, steps.arrived);
-    if at == 0 {
-        return Bounds { low, high: low };
-    }
-    let width = power_of(shift);
-    let below = low + (at - 1) as u64 * width;
-    let next = below + 1;
-    if high - below <= width {
-        return Bounds { low: next, high };
-    }
-    Bounds {
-        low: next,
-        high: below + width,
+// Two sizes: all sizes below `low` are too small, and `high` is enough.
+#[derive(Clone, Copy)]
+struct Bounds {
+    pub low: u64,
+    pub high: u64,
+}
+
+impl Bounds {
+    // Closes the bounds in by one pass over the sample, which tries STEPS sizes from `low` on.
+    fn narrowed(self, file: &[u8], measure: Measure, share: Share) -> Bounds
+        requires { (self.low < self.high) × Between measure share.part share.whole (answers_of (decode file.now)) self }
+        ensures { Between measure share.part share.whole (answers_of (decode file.now)) result
+            × (result.high - result.low < self.high - self.low) }
+    {
+        let Bounds { low, high } = self;
+        let shift = shift_for(high - low);
+        let steps = accommodated_steps(file, measure, low, shift);
+        let at = share.first_reached(&steps.counts, steps.arrived);
+        if at == 0 {
+            return Bounds { low, high: low };
+        }
+        let width = power_of(shift);
+        let below = low + (at - 1) as u64 * width;
+        let next = below + 1;
+        if high - below <= width {
+            return Bounds { low: next, high };
+        }
+        Bounds {
+            low: next,
+            high: below + width,
+        }
     }
 }
 
@@ -123,19 +131,20 @@ pub fn least(file: &[u8], measure: Measure, part: u32, whole: u32) -> SampleLeas
     }
     if outside(1, whole as u64, part as u64) {
         return SampleLeast {
-            refusal: ASKED_OUTSIDE,
+            refusal: Refusal::AskedOutside.number(),
             size: 0,
         };
     }
-    let mut b = Bounds {
+    let share = Share { part, whole };
+    let mut bounds = Bounds {
         low: 0,
         high: steps.greatest,
     };
-    while b.low < b.high {
-        b = narrowed(file, measure, part, whole, b);
+    while bounds.low < bounds.high {
+        bounds = bounds.narrowed(file, measure, share);
     }
     SampleLeast {
         refusal: NONE,
-        size: b.low,
+        size: bounds.low,
     }
 }

@@ -1,10 +1,10 @@
 -- The figures of a sample for C. A value that may be missing becomes 1 and its figures, or zeros. An f64 becomes its bits. The row of an
 -- answer is `row_of` of metrics. Assumes nothing.
-use Rattle.std.specs.Prelude.{ℕ, List, [], ◌∷◌}
+use Rattle.std.specs.Prelude.{ℕ, List, [], ◌∷◌, None, Some}
 use Rattle.std.specs.Float.{binary64}
 use Rattle.std.specs.Float.Ieee.{to_bits}
 use Rattle.rfc4737.specs.declared.Counts.{Counts}
-use Rattle.rfc4737.specs.declared.Gap.{Gap}
+use Rattle.rfc4737.specs.Gaps.{Gap}
 use Rattle.rfc4737.specs.declared.Ratio.{Ratio}
 use Rattle.rfc4737.specs.declared.Ratios.{Ratios}
 
@@ -16,8 +16,8 @@ count_figures c =
 
 -- the gap of a record, in positions
 abbrev pub gap_figures : Gap → List ℕ
-gap_figures Gap.None = 0 ∷ 0 ∷ []
-gap_figures (Gap.Positions p) = 1 ∷ p ∷ []
+gap_figures None = 0 ∷ 0 ∷ []
+gap_figures (Some p) = 1 ∷ p ∷ []
 
 -- a degree of n-reordering
 abbrev pub degree_figures : Ratio → List ℕ

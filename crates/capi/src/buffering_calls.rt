@@ -1,4 +1,4 @@
-// Waiting time and buffer for C. A measure is a number: 0 packets, 1 octets, 2 time.
+// Waiting time and buffer for C. A measure is a number, as C passes it: 0 packets, 1 octets, 2 time.
 
 ghost use Rattle.std.specs.Prelude.{◌≡◌, [], ◌∷◌, length};
 ghost use Rattle.rfc4737.specs.Refusals.{first_refusal, asked_outside};
@@ -10,7 +10,7 @@ ghost use Rattle.capi.specs.Buffering.{measure_of, with_measure, need_figures, s
 use metrics::STEPS;
 use rfc4737::Measure;
 use rfc4737::judge::outside;
-use rfc4737::refusal::ASKED_OUTSIDE;
+use rfc4737::refusal::{NONE, Refusal};
 
 const PACKETS: u32 = 0;
 
@@ -40,10 +40,10 @@ fn no_measure(file: &[u8]) -> u64
     ensures { result ≡ first_refusal (decoded_refusal (decode file.now) ∷ asked_outside ∷ []) }
 {
     let layout = sample::check(file);
-    if layout.refusal != 0 {
+    if layout.refusal != NONE {
         return layout.refusal as u64;
     }
-    ASKED_OUTSIDE as u64
+    Refusal::AskedOutside.number() as u64
 }
 
 // Finds the greatest needs of a sample.
@@ -78,13 +78,6 @@ pub extern "C" fn krakobran_accommodated(
     found.refusal as u64
 }
 
-// Returns a count as a figure.
-fn wide(count: u32) -> u64
-    ensures { result ≡ count }
-{
-    count as u64
-}
-
 // Returns the figures of several sizes.
 fn step_figures(arrived: u32, greatest: u64, counts: [u32; STEPS]) -> [u64; STEP_FIGURES]
     requires { length counts ≡ step_count }
@@ -93,10 +86,8 @@ fn step_figures(arrived: u32, greatest: u64, counts: [u32; STEPS]) -> [u64; STEP
     let mut figures = [0u64; STEP_FIGURES];
     figures[0] = arrived as u64;
     figures[1] = greatest;
-    let mut j: usize = 0;
-    while j < STEPS {
-        figures[2 + j] = wide(counts[j]);
-        j += 1;
+    for (j, count) in counts.iter().enumerate() {
+        figures[2 + j] = *count as u64;
     }
     figures
 }

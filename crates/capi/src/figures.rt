@@ -1,12 +1,13 @@
 // The figures of a sample as arrays of u64. An enum becomes the number of its case (or 1 if its value is known, else 0) and the figures
-// of all cases. An f64 becomes its bits.
+// of all cases. An f64 becomes its bits. These are functions, and no From: the structs and the arrays are both types of other crates, and
+// Rust keeps an impl between those to their crates. For C the arrays stay arrays, and the cases numbers.
 
 ghost use Rattle.std.specs.Prelude.{◌≡◌};
 ghost use Rattle.std.specs.Float.{binary64};
 ghost use Rattle.std.specs.Float.Ieee.{to_bits};
 ghost use Rattle.capi.specs.Figures.{count_figures, gap_figures, degree_figures, ratios_figures};
 
-use rfc4737::{Counts, Gap, Ratio, Ratios};
+use rfc4737::{Counts, Ratio, Ratios};
 
 // Returns the counts of a sample: first arrivals (L), reordered packets, duplicates, in-order packets, closed runs, the sum of the
 // squares of their lengths, and the length of the open run.
@@ -26,12 +27,12 @@ pub fn count_figures(counts: Counts) -> [u64; 7]
 }
 
 // Returns 1 and the gap of a record in positions, or 0 and 0 if it has none.
-pub fn gap_figures(gap: Gap) -> [u64; 2]
+pub fn gap_figures(gap: Option<u32>) -> [u64; 2]
     ensures { result ≡ gap_figures gap }
 {
     match gap {
-        Gap::None => [0, 0],
-        Gap::Positions(positions) => [1, positions as u64],
+        None => [0, 0],
+        Some(positions) => [1, positions as u64],
     }
 }
 

@@ -13,7 +13,7 @@ ghost use Rattle.capi.specs.Follow.{follow_refusal, follow_outcome, counted_stre
 
 use crate::outcomes::{noted_figures, refused_outcome};
 use receiver::{Lateness, Outcome, ReceiverAnswer, Stream};
-use rfc4737::refusal::ASKED_OUTSIDE;
+use rfc4737::refusal::Refusal;
 use rfc4737::{LateTime, Runs};
 use sample::WriteAnswer;
 use textlog::LogLine;
@@ -65,7 +65,7 @@ fn no_outcome() -> WriteAnswer
     ensures { result ≡ record { refusal = 9; length = 0 } }
 {
     WriteAnswer {
-        refusal: ASKED_OUTSIDE,
+        refusal: Refusal::AskedOutside.number(),
         length: 0,
     }
 }

@@ -11,7 +11,7 @@ use receiver::advance::StreamStep;
 use receiver::parts::fresh_stream;
 use receiver::{MARK_WORDS, Outcome, Receiver, Stream};
 use rfc4737::judge::{SENT_MOST, outside};
-use rfc4737::refusal::{NONE, SENT_OUTSIDE};
+use rfc4737::refusal::{NONE, Refusal};
 
 // Makes the parts of a receiver those of a fresh one for K sent packets; a refused K leaves them as they were. Returns the refusal and the
 // stream's numbers.
@@ -31,7 +31,7 @@ fn refresh<'a>(
 {
     if outside(1, SENT_MOST, sent as u64) {
         return StreamStep {
-            outcome: refused_outcome(SENT_OUTSIDE),
+            outcome: refused_outcome(Refusal::SentOutside.number()),
             stream,
         };
     }

@@ -6,10 +6,12 @@ ghost use Rattle.sample.specs.Decode.{decode, decoded_refusal, layout_of};
 ghost use Rattle.sample.specs.Calls.{ReadFrom, WrittenTo};
 ghost use Rattle.capi.specs.Sample.{layout_figures, layout_told, label_part, label_figures, write_told};
 
-use rfc4737::judge::refusal_of_lists;
+use rfc4737::judge::check_lists;
+use rfc4737::refusal::number_in;
 use sample::Layout;
 
-// The offset and the length of the label in a file, and the file's refusal (0 for none). If it is refused, both are 0.
+// The offset and the length of the label in a file, and the file's refusal (0 for none). If it is refused, both are 0. The
+// refusal stands beside the part, as `label_part` of specs/ gives both.
 #[derive(Clone, Copy)]
 pub struct LabelPart {
     pub refusal: u32,
@@ -109,5 +111,5 @@ pub extern "C" fn krakobran_sample_write(
 pub extern "C" fn krakobran_lists_check(sent: u64, numbers: &[u32], times: &[u64]) -> u64
     ensures { result ≡ refusal_of_lists sent numbers.now times.now }
 {
-    refusal_of_lists(sent, numbers, times) as u64
+    number_in(check_lists(sent, numbers, times)) as u64
 }

@@ -1,3 +1,2 @@
--- Laws of the parts of a text, and of lists that are filled with its numbers.
+-- Laws of the parts of a text.
 mod Parts
-mod Filled

@@ -1,118 +1,99 @@
--- The parts of a text t between separators s, found from place to place. The search for a separator is at `Counted`: none stands from
--- `from` up to `end`. Another octet is one more, and a separator or the end of the text ends it. A text that is not empty is its first
--- part, up to the first separator, and then the parts of what stands after that (`split`, by induction on the text). From an offset `at` on
--- let that part end at `end`. Then part 0 stands in between (`part-first`), and part `left` is part left - 1 of what stands from end + 1 on
--- (`part-later`). There is one part more than there (`count-more`). n and left count parts from 0. Assumes nothing.
-use Rattle.std.proofs.Common.{◌≡◌, ℕ, suc, ◌+◌, ◌-◌, ◌<◌, ◌≤◌, Bool, true, false, cond, eqb, List, [], ◌∷◌, length, get_or, take, drop, sym, refl, ap, ◌∙◌, arith, length-drop, drop_of_length-le, drop-drop}
+-- The parts of a text t between separators s. A text that is not empty is its first part, up to the first separator, and then the parts
+-- of what stands after that (`split`, by induction on the text). Assumes nothing.
+use Rattle.std.proofs.Common.{◌≡◌, ℕ, suc, ◌+◌, ◌-◌, ◌<◌, ◌≤◌, Bool, true, false, cond, not, eqb, ltb, List, [], ◌∷◌, length, get_or, take, drop, refl, sym, ap, subst, ◌∙◌, arith, one-add, add-one, length-drop, drop_of_length-le}
+use Rattle.std.specs.Prelude.{Option, Some, None, position, unwrap_or, slice_get}
+use Rattle.std.specs.List.{position_or_len}
+use Rattle.std.specs.Option.{option_map}
+use Rattle.std.proofs.lemmas.Bool.{eqb-true, eq-eqb, ltb-true, ltb-false}
+use Rattle.std.proofs.lemmas.List.Sums.{prefix_len-le-length}
+use Rattle.std.proofs.lemmas.Option.{unwrap_or-slice_get}
+use Rattle.std.proofs.Math.Seq.{take-length}
 use lib.ListN.{get_or-map}
 use Rattle.decimal.specs.Decimal.{decimal_value}
 use Rattle.decimal.specs.Reading.{digit_count}
-use Rattle.decimal.proofs.Leading.{Counted, stands, counted-more, counted-all}
 use Rattle.cases.specs.Text.{with_octet, cut_at, part_number, numbers_in}
-use Rattle.cases.specs.Private.{separator_at}
 
--- ---- the octets before a separator
-
--- a separator stands at the start
-before_here : (s : ℕ) (t : List ℕ) → eqb (get_or t 0 0) s ≡ true → 0 < length t → separator_at s t ≡ 0
-unfolding separator_at
-before_here s [] e h = refl
-before_here s (o ∷ t) e h = rw e
-
--- another octet does
-before_more : (s : ℕ) (t : List ℕ) → eqb (get_or t 0 0) s ≡ false → 0 < length t → separator_at s t ≡ suc (separator_at s (drop 1 t))
-unfolding separator_at
-before_more s [] e h = absurd (omega arith)
-before_more s (o ∷ t) e h = rw e
-
--- no separator stands from a place on up to another
-module _ (s : ℕ) {t : List ℕ} {from end : ℕ} (p : Counted (separator_at s) t from end) where
-  -- another octet stands there
-  pub no-separator-more : end < length t → eqb (get_or t end 0) s ≡ false → Counted (separator_at s) t from (end + 1)
-  no-separator-more h e = counted-more p (before_more s (drop end t) (rw (stands t end) e) (simp length-drop (omega arith)))
-
-  -- a separator stands there
-  pub no-separator-here : end < length t → eqb (get_or t end 0) s ≡ true → end ≡ from + separator_at s (drop from t)
-  no-separator-here h e = counted-all p (before_here s (drop end t) (rw (stands t end) e) (simp length-drop (omega arith)))
-
-  -- the text ends there
-  pub no-separator-past : length t ≤ end → end ≡ from + separator_at s (drop from t)
-  unfolding separator_at
-  no-separator-past h = counted-all p (ap (separator_at s) (drop_of_length-le t h))
-
--- ---- the first part, and those after it
+-- where the first separator stands, or the length
+abbrev end_of : ℕ → List ℕ → ℕ
+end_of s t = position_or_len (λ (x : ℕ). eqb x s) t
 
 -- with one octet more before a text
 split-more : (s o : ℕ) (t : List ℕ) (b : Bool)
-    → (0 < length t → cut_at s t ≡ take (separator_at s t) t ∷ cut_at s (drop (suc (separator_at s t)) t))
+    → (0 < length t → cut_at s t ≡ take (end_of s t) t ∷ cut_at s (drop (suc (end_of s t)) t))
     → with_octet b o (cut_at s t)
-    ≡ take (cond b 0 (suc (separator_at s t))) (o ∷ t) ∷ cut_at s (drop (suc (cond b 0 (suc (separator_at s t)))) (o ∷ t))
-unfolding with_octet cut_at separator_at
+    ≡ take (cond (not b) (suc (end_of s t)) 0) (o ∷ t)
+    ∷ cut_at s (drop (suc (cond (not b) (suc (end_of s t)) 0)) (o ∷ t))
+unfolding with_octet cut_at
 split-more s o t true so = refl
 split-more s o [] false so = refl
 split-more s o (q ∷ t) false so = ap (with_octet false o) (so (omega arith))
 
 -- a text that is not empty: its first part, and the parts of what stands after the separator
-split : (s : ℕ) (t : List ℕ) → 0 < length t → cut_at s t ≡ take (separator_at s t) t ∷ cut_at s (drop (suc (separator_at s t)) t)
-unfolding cut_at separator_at
-split s [] h = absurd (omega arith)
-split s (o ∷ t) h = split-more s o t (eqb o s) (split s t)
-
--- the first part, which is empty where the text is
-first : (s : ℕ) (t : List ℕ) → get_or (cut_at s t) 0 [] ≡ take (separator_at s t) t
-unfolding cut_at separator_at
-first s [] = refl
-first s (o ∷ t) = ap (λ (ps : List (List ℕ)). get_or ps 0 []) (split s (o ∷ t) (omega arith))
-
--- a later part
-later : (s : ℕ) (t : List ℕ) (n : ℕ) → get_or (cut_at s t) (suc n) [] ≡ get_or (cut_at s (drop (suc (separator_at s t)) t)) n []
-unfolding cut_at separator_at
-later s [] n = refl
-later s (o ∷ t) n = ap (λ (ps : List (List ℕ)). get_or ps (suc n) []) (split s (o ∷ t) (omega arith))
-
--- ---- at a place of a text, where the part from there on ends at another
-
-module _ (t : List ℕ) (s at end : ℕ) (e : end ≡ at + separator_at s (drop at t)) where
-  -- what stands after its separator
-  beyond : drop (suc (separator_at s (drop at t))) (drop at t) ≡ drop (end + 1) t
-  beyond =
-      let p : at + suc (separator_at s (drop at t)) ≡ end + 1 = omega (arith, e) in
-      drop-drop (suc (separator_at s (drop at t))) at t ∙ ap (λ (k : ℕ). drop k t) p
-
-  -- the first part from there on
-  pub part-first : take (end - at) (drop at t) ≡ get_or (cut_at s (drop at t)) 0 []
-  part-first =
-      let p : separator_at s (drop at t) ≡ end - at = omega (arith, e) in
-      sym (first s (drop at t) ∙ ap (λ (k : ℕ). take k (drop at t)) p)
-
-  -- a later one
-  pub part-later : (left : ℕ) → 0 < left → get_or (cut_at s (drop at t)) left [] ≡ get_or (cut_at s (drop (end + 1) t)) (left - 1) []
-  part-later left h =
-      let k : left ≡ suc (left - 1) = omega arith in
-      ap (λ (n : ℕ). get_or (cut_at s (drop at t)) n []) k
-      ∙ later s (drop at t) (left - 1)
-      ∙ ap (λ (l : List ℕ). get_or (cut_at s l) (left - 1) []) beyond
-
-  -- there is none where the text ends
-  pub part_none : (left : ℕ) → 0 < left → length t ≤ end → get_or (cut_at s (drop at t)) left [] ≡ []
-  unfolding cut_at
-  part_none left h k =
-      part-later left h ∙ ap (λ (l : List ℕ). get_or (cut_at s l) (left - 1) []) (drop_of_length-le t {i = end + 1} (omega arith))
-
-  -- how many there are
-  pub count-more : at < length t → length (cut_at s (drop at t)) ≡ suc (length (cut_at s (drop (end + 1) t)))
-  count-more h =
-      let k : 0 < length (drop at t) = simp length-drop (omega arith) in
-      ap length (split s (drop at t) k) ∙ ap (λ (l : List ℕ). suc (length (cut_at s l))) beyond
-
--- past the end of a text there is none
-pub count_none : (t : List ℕ) (s at : ℕ) → length t ≤ at → length (cut_at s (drop at t)) ≡ 0
+split : (s : ℕ) (t : List ℕ) → 0 < length t → cut_at s t ≡ take (end_of s t) t ∷ cut_at s (drop (suc (end_of s t)) t)
 unfolding cut_at
-count_none t s at h = ap (λ (l : List ℕ). length (cut_at s l)) (drop_of_length-le t h)
+split s [] h = absurd (omega arith)
+split s (o ∷ t) h = rw one-add (split-more s o t (eqb o s) (split s t))
 
--- ---- numbers
+-- a text that is not empty
+filled : (t : List ℕ) → eqb (length t) 0 ≡ false → 0 < length t
+filled [] e = let z = eq-eqb 0 0 refl in absurd (cc)
+filled (o ∷ t) e = omega arith
 
--- the number of a part is the number at its place; past the last part it is 0
+-- a separator is found, or none
+found : (b : Bool) (k n : ℕ) → Some n ≡ cond b (Some k) None → (b ≡ true) × (k ≡ n)
+found true k n e = (refl, cc)
+found false k n e = absurd cc
+
+none_found : (b : Bool) (k : ℕ) → None ≡ cond b (Some k) None → b ≡ false
+none_found true k e = absurd cc
+none_found false k e = refl
+
+-- up to the first separator, and after it
+pub split-some : (s : ℕ) (t : List ℕ) (n : ℕ) → Some n ≡ position (λ (x : ℕ). eqb x s) t
+    → cut_at s t ≡ take n t ∷ cut_at s (take (length t - (n + 1)) (drop (n + 1) t))
+split-some s t n e =
+    let f = found (ltb (end_of s t) (length t)) (end_of s t) n e in
+    let h = ltb-true _ _ f.0 in
+    let w = split s t (omega arith) in
+    let at_n = subst (λ (k : ℕ). cut_at s t ≡ take k t ∷ cut_at s (drop (suc k) t)) f.1 w in
+    let rest = simp length-drop at (take-length (drop (n + 1) t)) in
+    rw rest (rw add-one at_n)
+
+-- no separator
+pub split-none : (s : ℕ) (t : List ℕ) → eqb (length t) 0 ≡ false → None ≡ position (λ (x : ℕ). eqb x s) t → cut_at s t ≡ t ∷ cut_at s []
+split-none s t h e =
+    let f = ltb-false _ _ (none_found (ltb (end_of s t) (length t)) (end_of s t) e) in
+    let most = prefix_len-le-length (λ (x : ℕ). not (eqb x s)) t in
+    let whole : end_of s t ≡ length t = omega arith in
+    let w = split s t (filled t h) in
+    let all = subst (λ (k : ℕ). cut_at s t ≡ take k t ∷ cut_at s (drop (suc k) t)) whole w in
+    rw (take-length t, drop_of_length-le t {i = suc (length t)} (omega arith)) at all
+
+-- an empty text has none
+pub split-empty : (s : ℕ) (t : List ℕ) → true ≡ eqb (length t) 0 → cut_at s t ≡ []
+unfolding cut_at
+split-empty s [] e = refl
+split-empty s (o ∷ t) e = let z = eqb-true (length (o ∷ t)) 0 (sym e) in absurd (omega arith)
+
+-- a part or none, read by its index
+pub part_read : {B : Type 0} (view : B → List ℕ) (r : Option B) (d : B) (l : List (List ℕ)) (n : ℕ)
+    → option_map view r ≡ slice_get l n → view (unwrap_or r d) ≡ get_or l n (view d)
+part_read view None d l n e = ap (λ (o : Option (List ℕ)). unwrap_or o (view d)) e ∙ unwrap_or-slice_get l n (view d)
+part_read view (Some x) d l n e = ap (λ (o : Option (List ℕ)). unwrap_or o (view d)) e ∙ unwrap_or-slice_get l n (view d)
+
+-- the number of a part is the number at its index; past the last part it is 0
 pub number-found : (t : List ℕ) (n : ℕ) → part_number (get_or (cut_at 32 t) n []) ≡ get_or (numbers_in t) n 0
 unfolding digit_count decimal_value
 number-found t n = sym (get_or-map part_number (cut_at 32 t) n [])
+
+-- a text has no more parts than octets
+more_parts : (b : Bool) (o : ℕ) (ps : List (List ℕ)) → length (with_octet b o ps) ≤ suc (length ps)
+unfolding with_octet
+more_parts true o ps = omega arith
+more_parts false o [] = omega arith
+more_parts false o (p ∷ ps) = omega arith
+
+pub count_le : (s : ℕ) (t : List ℕ) → length (cut_at s t) ≤ length t
+unfolding cut_at
+count_le s [] = omega arith
+count_le s (o ∷ t) = let m = more_parts (eqb o s) o (cut_at s t) in let i = count_le s t in omega arith

@@ -1,4 +1,3 @@
 -- Cases as text: the definitions that contracts cite. Assumes nothing.
 pub mod Text
 pub mod Lists
-pub mod Private

@@ -2,10 +2,10 @@
 // are written to standard output.
 #![tactic(auto)]
 
+pub mod element;
 pub mod fields;
 pub mod lists;
 pub mod print;
-pub mod same;
 pub mod series;
 pub mod text;
 pub mod totals;

@@ -12,41 +12,27 @@ ghost use Rattle.checker.specs.Private.{feeds, wrong_after};
 
 use rfc4737::refusal::NONE;
 
-// The verdict on a listing: it agrees, or the number of its first wrong line, from 1.
-#[derive(Clone, Copy)]
+// The verdict on a listing: it agrees, or the number of its first wrong line, from 1. No `Option` of the line: `None` would not say that the
+// listing agrees, and `verdict_on_lines` of specs/Verdict gives both cases by name.
+#[derive(Clone, Copy, Debug, PartialEq, Eq)]
 pub enum Verdict {
     Agrees,
     WrongLine(u32),
 }
 
 // The verdict, and the refusal of the sample (0 for none). If the sample is refused, the listing is not read, and the line is 0.
+// A refusal stands beside the verdict, and not in place of it, since `sample_verdict` of specs/Verdict.antt gives both, for C too.
 #[derive(Clone, Copy)]
 pub struct SampleVerdict {
     pub refusal: u32,
     pub verdict: Verdict,
 }
 
-// Returns 1 for a line feed, else 0.
-fn one_if_line_feed(x: u8) -> usize
-    ensures { result ≡ cond (eqb x line_feed) 1 0 }
-{
-    if x == b'\n' {
-        return 1;
-    }
-    0
-}
-
 // Counts the line feeds in a text.
 fn line_feeds_in(text: &[u8]) -> usize
     ensures { result ≡ feeds text.now }
 {
-    let mut count: usize = 0;
-    let mut i: usize = 0;
-    while i < text.len() {
-        count += one_if_line_feed(text[i]);
-        i += 1;
-    }
-    count
+    text.iter().filter(|x| **x == b'\n').count()
 }
 
 // Returns the first wrong line if the first `octets` octets agree: their number of line feeds, plus 1.

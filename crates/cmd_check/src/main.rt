@@ -12,9 +12,7 @@ ghost use Rattle.checker.specs.Verdict.{sample_verdict};
 
 use checker::{SampleVerdict, Verdict};
 use listing::LISTING_OCTETS;
-use program::{
-    SAMPLE_ROOM, argument_count, open_argument, read, write_number, write_refusal, write_word,
-};
+use program::{SAMPLE_ROOM, argument_count, open_argument, read, write_refusal};
 use rfc4737::refusal::NONE;
 use shown::write_line;
 use std::io;
@@ -36,20 +34,19 @@ fn check_start(file: &[u8], start: &[u8]) -> SampleVerdict
 fn write_right_line(rt: &impl Print, file: &[u8], n: usize) -> io::Result<()> {
     let mut out = [0u8; LISTING_OCTETS];
     let length = metrics::listing(file, &mut out).length as usize;
-    if length <= out.len() {
-        write_line(rt, b"the sample gives: ", line_of(&out[0..length], n))?;
+    if let Some(report) = out.get(..length) {
+        write_line(rt, "the sample gives: ", line_of(report, n))?;
     }
     Ok(())
 }
 
 // Writes that line n is wrong, that line and the right one. Lines count from 1.
 fn write_wrong_line(rt: &impl Print, file: &[u8], start: &[u8], n: u32) -> io::Result<()> {
-    write_word(rt, b"line ")?;
-    write_number(rt, n as u64)?;
-    write_word(rt, b" is wrong\n")?;
-    if 0 < n {
-        write_line(rt, b"the listing has: ", line_of(start, n as usize - 1))?;
-        write_right_line(rt, file, n as usize - 1)?;
+    print!(rt; "line {n} is wrong\n")?;
+    if let Some(index) = n.checked_sub(1) {
+        let index = index as usize;
+        write_line(rt, "the listing has: ", line_of(start, index))?;
+        write_right_line(rt, file, index)?;
     }
     Ok(())
 }
@@ -60,9 +57,8 @@ fn write_verdict(rt: &impl Print, file: &[u8], start: &[u8]) -> io::Result<()> {
     if checked.refusal != NONE {
         return write_refusal(rt, checked.refusal);
     }
-    let verdict = checked.verdict;
-    match verdict {
-        Verdict::Agrees => write_word(rt, b"the listing is right\n"),
+    match checked.verdict {
+        Verdict::Agrees => rt.print("the listing is right\n"),
         Verdict::WrongLine(n) => write_wrong_line(rt, file, start, n),
     }
 }
@@ -77,16 +73,13 @@ fn check_files(rt: &impl Print, sample: &mut impl Read, listing: &mut impl Read)
 // Takes the arguments, and checks.
 fn main(rt: HostRuntime) -> io::Result<()> {
     if argument_count(&rt) != 3 {
-        return write_word(
-            &rt,
-            b"the arguments are the names of a sample file and of a listing\n",
-        );
+        return rt.print("the arguments are the names of a sample file and of a listing\n");
     }
     let Some(mut sample) = open_argument(&rt, 1) else {
-        return write_word(&rt, b"the sample can't be opened\n");
+        return rt.print("the sample can't be opened\n");
     };
     let Some(mut listing) = open_argument(&rt, 2) else {
-        return write_word(&rt, b"the listing can't be opened\n");
+        return rt.print("the listing can't be opened\n");
     };
     check_files(&rt, &mut sample, &mut listing)
 }

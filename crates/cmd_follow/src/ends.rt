@@ -1,25 +1,20 @@
-// How the program ended, as a number and as a word.
+// How the program ended, as a word.
 use std::fs::OpenOptions;
 use std::io::Write;
 use std::rt::Files;
 
-// It has not ended yet.
-pub(crate) const GOING: u32 = 0;
-
-// The input has ended.
-pub(crate) const INPUT_ENDED: u32 = 1;
-
-// The input can't be read.
-pub(crate) const UNREAD: u32 = 2;
-
-// A line can't be written.
-pub(crate) const UNWRITTEN: u32 = 3;
-
-// K is refused.
-pub(crate) const REFUSED: u32 = 4;
-
-// What reads the output has gone away.
-pub(crate) const GONE: u32 = 5;
+// Why the program ended before all was read and written.
+#[derive(Clone, Copy)]
+pub(crate) enum End {
+    // The input can't be read.
+    Unread,
+    // A line can't be written.
+    Unwritten,
+    // What reads the output has gone away.
+    Gone,
+    // K is refused.
+    Refused,
+}
 
 // The name of descriptor 3, on which the program says how it ended.
 const STATUS: &str = "/dev/fd/3";
@@ -31,19 +26,13 @@ fn say(rt: &impl Files, word: &[u8]) {
     }
 }
 
-// Says how the program ended. GOING means that all was read and written.
-pub(crate) fn say_end(rt: &impl Files, end: u32) {
-    if end == UNREAD {
-        return say(rt, b"unread");
+// Says how the program ended.
+pub(crate) fn say_end(rt: &impl Files, ended: Result<(), End>) {
+    match ended {
+        Ok(()) => say(rt, b"done"),
+        Err(End::Unread) => say(rt, b"unread"),
+        Err(End::Unwritten) => say(rt, b"unwritten"),
+        Err(End::Gone) => say(rt, b"gone"),
+        Err(End::Refused) => say(rt, b"refused"),
     }
-    if end == UNWRITTEN {
-        return say(rt, b"unwritten");
-    }
-    if end == GONE {
-        return say(rt, b"gone");
-    }
-    if end == REFUSED {
-        return say(rt, b"refused");
-    }
-    say(rt, b"done");
 }

@@ -6,14 +6,15 @@
 
 mod ends;
 
-use ends::{GOING, GONE, INPUT_ENDED, REFUSED, UNREAD, UNWRITTEN, say_end};
+use ends::{End, say_end};
 use follow::LINE_OCTETS;
 use program::{argument, write_first};
 use receiver::Receiver;
-use rfc4737::refusal::STATE_FULL;
+use rfc4737::refusal::{NONE, Refusal};
 use std::io::{ErrorKind, Read};
 use std::num::wrapping_add_u64;
 use std::rt::Files;
+use writing::Text;
 
 // Room for a line, in octets. A longer line is cut there, so it has no line feed and is refused.
 const HELD_OCTETS: usize = 256;
@@ -22,17 +23,15 @@ const HELD_OCTETS: usize = 256;
 const BLOCK_OCTETS: usize = 4096;
 
 // The state of the program between two octets.
-#[derive(Clone, Copy)]
+#[derive(Drop)]
 struct Progress {
     // The receiver.
     state: Receiver,
     // The octets of the current line that are held, and its number.
-    held: usize,
+    held: Text<HELD_OCTETS>,
     line: u64,
     // Whether the program has said that the receiver is full.
     told: bool,
-    // How the program ends, or GOING.
-    end: u32,
 }
 
 // Says that the receiver is full, and at which line a new one has to start.
@@ -42,189 +41,128 @@ fn tell_full(rt: &impl Eprint, line: u64) {
     );
 }
 
-// Writes the first n octets of `out`. Returns GOING; or UNWRITTEN if they can't be written, GONE if it is for want of a reader.
-fn write_line(rt: &impl Print, out: &[u8], n: usize) -> u32 {
+// Writes the first n octets of `out`.
+fn write_line(rt: &impl Print, out: &[u8], n: usize) -> Result<(), End> {
     match write_first(rt, out, n) {
-        Ok(true) => GOING,
-        Ok(false) => UNWRITTEN,
-        Err(e) if e.kind() == ErrorKind::BrokenPipe => GONE,
-        Err(_) => UNWRITTEN,
+        Ok(true) => Ok(()),
+        Ok(false) => Err(End::Unwritten),
+        Err(e) if e.kind() == ErrorKind::BrokenPipe => Err(End::Gone),
+        Err(_) => Err(End::Unwritten),
     }
 }
 
-// Says that the receiver is full at the first line that is refused for it. Returns whether this was said, now or before.
-fn told_full(rt: &impl Eprint, told: bool, refusal: u32, line: u64) -> bool {
-    if told {
-        return true;
-    }
-    if refusal != STATE_FULL {
-        return false;
-    }
-    tell_full(rt, line);
-    true
-}
-
-// Ends the line that is held in `line`: steps the receiver and writes the outcome.
-fn end_line(rt: &(impl Print + Eprint), progress: Progress, line: &[u8]) -> Progress {
-    let held = progress.held;
+// Ends the line that is held: steps the receiver and writes the outcome. Says that the receiver is full at the first line that is refused
+// for it.
+fn end_line(rt: &(impl Print + Eprint), progress: &mut Progress) -> Result<(), End> {
+    let mut out = [0u8; LINE_OCTETS];
     let state = progress.state;
-    if held <= line.len() {
-        let mut out = [0u8; LINE_OCTETS];
-        let answer = follow::line(state, &line[0..held], &mut out);
-        let after = answer.state;
-        let end = write_line(rt, &out, answer.length as usize);
-        let told = told_full(rt, progress.told, answer.refusal, progress.line);
-        return Progress {
-            state: after,
-            held: 0,
-            line: wrapping_add_u64(progress.line, 1),
-            told,
-            end,
-        };
+    let answer = follow::line(state, progress.held.octets(), &mut out);
+    let after = answer.state;
+    let written = write_line(rt, &out, answer.length as usize);
+    if !progress.told && answer.refusal == Refusal::StateFull.number() {
+        tell_full(rt, progress.line);
+        progress.told = true;
     }
-    progress
+    progress.state = after;
+    progress.held.clear();
+    progress.line = wrapping_add_u64(progress.line, 1);
+    written
 }
 
-// Holds an octet if there is room for it. Returns the number of octets held.
-fn hold(line: &mut [u8], held: usize, octet: u8) -> usize {
-    if held < line.len() {
-        line[held] = octet;
-        return held + 1;
+// Takes one octet, and holds it if there is room for it. A line feed ends the line.
+fn take_octet(rt: &(impl Print + Eprint), progress: &mut Progress, octet: u8) -> Result<(), End> {
+    if progress.held.octets().len() < HELD_OCTETS {
+        progress.held.octet(octet);
     }
-    held
-}
-
-// Takes one octet. A line feed ends the line.
-fn take_octet(
-    rt: &(impl Print + Eprint),
-    progress: Progress,
-    line: &mut [u8],
-    octet: u8,
-) -> Progress {
-    let held = hold(line, progress.held, octet);
-    let mut next = progress;
-    next.held = held;
     if octet == b'\n' {
-        return end_line(rt, next, line);
+        end_line(rt, progress)?;
     }
-    next
+    Ok(())
 }
 
 // Takes the octets of a block in turn.
 fn take_block(
     rt: &(impl Print + Eprint),
-    start: Progress,
-    line: &mut [u8],
+    progress: &mut Progress,
     block: &[u8],
-) -> Progress {
-    let mut progress = start;
-    let mut i = 0;
-    while i < block.len() {
-        if progress.end != GOING {
-            return progress;
-        }
-        let next = take_octet(rt, progress, line, block[i]);
-        progress = next;
-        i += 1;
+) -> Result<(), End> {
+    for octet in block {
+        take_octet(rt, progress, *octet)?;
     }
-    progress
+    Ok(())
 }
 
-// Returns the progress with another end.
-fn ended(progress: Progress, end: u32) -> Progress {
-    let mut last = progress;
-    last.end = end;
-    last
-}
-
-// Reads a block and takes its octets.
+// Reads a block and takes its octets. Returns whether there was one.
 fn read_block(
     rt: &(impl Print + Eprint),
     from: &mut impl Read,
-    progress: Progress,
-    line: &mut [u8],
-) -> Progress {
+    progress: &mut Progress,
+) -> Result<bool, End> {
     let mut block = [0u8; BLOCK_OCTETS];
     match from.read(&mut block) {
-        Err(_) => ended(progress, UNREAD),
-        Ok(0) => ended(progress, INPUT_ENDED),
-        Ok(n) => take_block(rt, progress, line, &block[..n]),
-    }
-}
-
-// Reads block after block. Every loop must be proved to end, so this one counts down from a number of turns that no run reaches.
-fn read_all(rt: &(impl Input + Print + Eprint), start: Progress, line: &mut [u8]) -> Progress {
-    let mut progress = start;
-    let mut from = rt.reader();
-    let mut turns = u64::MAX;
-    while turns > 0 {
-        if progress.end != GOING {
-            return progress;
+        Err(_) => Err(End::Unread),
+        Ok(0) => Ok(false),
+        Ok(n) => {
+            take_block(rt, progress, &block[..n])?;
+            Ok(true)
         }
-        let next = read_block(rt, &mut from, progress, line);
-        progress = next;
-        turns -= 1;
     }
-    progress
 }
 
 // Ends a last line without a line feed, which is refused.
-fn end_last(rt: &(impl Print + Eprint), progress: Progress, line: &[u8]) -> Progress {
-    if progress.end != INPUT_ENDED {
-        return progress;
+fn end_last(rt: &(impl Print + Eprint), progress: &mut Progress) -> Result<(), End> {
+    if progress.held.octets().is_empty() {
+        return Ok(());
     }
-    if progress.held == 0 {
-        return ended(progress, GOING);
-    }
-    end_line(rt, progress, line)
+    end_line(rt, progress)
 }
 
-// Writes the counts. Returns how the program ends.
-fn write_counts(rt: &impl Print, progress: Progress) -> u32 {
-    if progress.end != GOING {
-        return progress.end;
+// Reads block after block, and ends the last line. Every loop must be proved to end, so this one has a number of turns that no run reaches.
+fn read_all(rt: &(impl Input + Print + Eprint), progress: &mut Progress) -> Result<(), End> {
+    let mut from = rt.reader();
+    for _ in 0..u64::MAX {
+        if !read_block(rt, &mut from, progress)? {
+            return end_last(rt, progress);
+        }
     }
+    Ok(())
+}
+
+// Writes the counts.
+fn write_counts(rt: &impl Print, state: Receiver) -> Result<(), End> {
     let mut out = [0u8; LINE_OCTETS];
-    let answer = follow::counts(progress.state.stream, &mut out);
+    let answer = follow::counts(state.stream, &mut out);
     write_line(rt, &out, answer.length as usize)
 }
 
 // Follows standard input with a fresh receiver.
-fn follow_input(rt: &(impl Files + Input + Print + Eprint), state: Receiver) {
-    let mut line = [0u8; HELD_OCTETS];
-    let start = Progress {
+fn follow_input(rt: &(impl Input + Print + Eprint), state: Receiver) -> Result<(), End> {
+    let mut progress = Progress {
         state,
-        held: 0,
+        held: Text::new(),
         line: 1,
         told: false,
-        end: GOING,
     };
-    let read = read_all(rt, start, &mut line);
-    let last = end_last(rt, read, &line);
-    say_end(rt, write_counts(rt, last));
+    read_all(rt, &mut progress)?;
+    write_counts(rt, progress.state)
 }
 
-// Reads a word as K. Any other word gives 0, which is refused.
-fn sent_in(word: &[u8]) -> u32 {
+// Reads a word as K, if it is a number of at most 4,096.
+fn sent_in(word: &[u8]) -> Option<u32> {
     let number = decimal::reading::number_at(word, 0);
-    let value = number.value;
-    if number.end < word.len() {
-        return 0;
+    if number.end < word.len() || 4096 < number.value {
+        return None;
     }
-    if 4096 < value {
-        return 0;
-    }
-    value as u32
+    Some(number.value as u32)
 }
 
-// Reads K, and follows standard input.
+// Reads K, and follows standard input. Where K is no such number, the receiver is asked for with 0, which it refuses.
 fn main(rt: HostRuntime) {
     let mut word = [0u8; 32];
-    let fresh = Receiver::fresh(sent_in(argument(&rt, 1, &mut word)));
+    let fresh = Receiver::fresh(sent_in(argument(&rt, 1, &mut word)).unwrap_or(0));
     let state = fresh.state;
-    if fresh.refusal != 0 {
-        say_end(&rt, REFUSED);
-        return;
+    if fresh.refusal != NONE {
+        return say_end(&rt, Err(End::Refused));
     }
-    follow_input(&rt, state);
+    say_end(&rt, follow_input(&rt, state));
 }

@@ -22,6 +22,13 @@ pub(crate) enum Kind {
     Records,
 }
 
+// The packets sent: K of them, all of one payload size.
+#[derive(Clone, Copy)]
+pub(crate) struct Packets {
+    pub(crate) k: u32,
+    pub(crate) size: u16,
+}
+
 // Fills `numbers` and `times` with the arrivals of the input.
 fn import_lists(
     kind: Kind,
@@ -48,20 +55,19 @@ fn import_lists(
 }
 
 // Writes the sample file of the first `imported.arrivals` entries of both lists to the start of `out`. If the import was refused,
-// returns its refusal and leaves `out` unchanged.
+// returns its refusal and leaves `out` unchanged. The answers of the library's calls hold a refusal's number, as C receives it.
 fn convert_lists(
     imported: LogImport,
     label: &[u8],
-    k: u32,
-    size: u16,
+    packets: Packets,
     numbers: &[u32],
     times: &[u64],
     out: &mut [u8],
 ) -> WriteAnswer
-    requires { imported.refusal ≡ 0 → (l : List Arrival) × Holds k imported.arrivals numbers.now times.now l }
+    requires { imported.refusal ≡ 0 → (l : List Arrival) × Holds packets.k imported.arrivals numbers.now times.now l }
     ensures { (l : List Arrival) → (imported.refusal ≡ 0
-        → Holds k imported.arrivals numbers.now times.now l)
-        → ConvertedTo imported.refusal label.now k size l out.old result out.new }
+        → Holds packets.k imported.arrivals numbers.now times.now l)
+        → ConvertedTo imported.refusal label.now packets.k packets.size l out.old result out.new }
 {
     if imported.refusal != 0 {
         return WriteAnswer {
@@ -69,8 +75,8 @@ fn convert_lists(
             length: 0,
         };
     }
-    let sizes = [size; LIST_LEN];
-    let sent = k as usize;
+    let sizes = [packets.size; LIST_LEN];
+    let sent = packets.k as usize;
     let n = imported.arrivals as usize;
     sample::write(label, &sizes[..sent], &numbers[..n], &times[..n], out)
 }
@@ -80,15 +86,14 @@ pub(crate) fn convert(
     kind: Kind,
     input: &[u8],
     label: &[u8],
-    k: u32,
-    size: u16,
+    packets: Packets,
     out: &mut [u8],
 ) -> WriteAnswer
-    ensures { ConvertedTo (input_refusal kind k input.now) label.now k size
+    ensures { ConvertedTo (input_refusal kind packets.k input.now) label.now packets.k packets.size
         (input_arrivals kind input.now) out.old result out.new }
 {
     let mut numbers = [0u32; LIST_LEN];
     let mut times = [0u64; LIST_LEN];
-    let imported = import_lists(kind, input, k, &mut numbers, &mut times);
-    convert_lists(imported, label, k, size, &numbers, &times, out)
+    let imported = import_lists(kind, input, packets.k, &mut numbers, &mut times);
+    convert_lists(imported, label, packets, &numbers, &times, out)
 }

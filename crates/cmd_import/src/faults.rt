@@ -1,7 +1,7 @@
 // Says in words why an input is refused: the words of the refusal or, of a malformed line, what is wrong with it.
 use line_faults::{LineFault, line_fault};
 use program::{write_number, write_word, write_words};
-use rfc4737::refusal::LINE_MALFORMED;
+use rfc4737::refusal::Refusal;
 use std::io;
 use text_lines::line_of;
 
@@ -31,7 +31,7 @@ fn write_line_refusal(rt: &impl Print, refusal: u32, log: &[u8], n: u32) -> io::
     write_word(rt, b" at line ")?;
     write_number(rt, n as u64)?;
     write_word(rt, b": ")?;
-    if refusal != LINE_MALFORMED {
+    if refusal != Refusal::LineMalformed.number() {
         return write_words(rt, refusal);
     }
     if 0 < n {
@@ -40,20 +40,21 @@ fn write_line_refusal(rt: &impl Print, refusal: u32, log: &[u8], n: u32) -> io::
     Ok(())
 }
 
-// Writes the refusal of an input in words. `line` is the first refused line, or 0 if the refusal is not about a line.
+// Writes the refusal of an input in words. `line` is the first refused line, if the refusal is about a line.
 pub(crate) fn write_refusal(
     rt: &impl Print,
     refusal: u32,
     input: &[u8],
-    line: u32,
+    line: Option<u32>,
 ) -> io::Result<()> {
     write_word(rt, b"refused ")?;
     write_number(rt, refusal as u64)?;
-    if line == 0 {
-        write_word(rt, b": ")?;
-        write_words(rt, refusal)?;
-    } else {
-        write_line_refusal(rt, refusal, input, line)?;
+    match line {
+        Some(line) => write_line_refusal(rt, refusal, input, line)?,
+        None => {
+            write_word(rt, b": ")?;
+            write_words(rt, refusal)?;
+        }
     }
     write_word(rt, b"\n")
 }

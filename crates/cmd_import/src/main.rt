@@ -8,8 +8,8 @@ mod arguments;
 mod convert;
 mod faults;
 
-use arguments::{Argument, argument_in};
-use convert::{Kind, convert};
+use arguments::argument_in;
+use convert::{Kind, Packets, convert};
 use faults::write_refusal;
 use program::{
     ARGUMENT_OCTETS, argument, argument_count, argument_is, read_input, write_first, write_word,
@@ -32,14 +32,15 @@ const SIZE_INDEX: usize = 4;
 // One octet more, so that input that is too long is noticed.
 const INPUT_OCTETS: usize = MAX_INPUT + 1;
 
-// Returns the first refused line of the input, or 0 if no line is refused. Records have no lines.
-fn refused_line(kind: Kind, input: &[u8], k: u32) -> u32 {
-    match kind {
+// Returns the first refused line of the input, if a line is refused. Records have no lines.
+fn refused_line(kind: Kind, input: &[u8], k: u32) -> Option<u32> {
+    let line = match kind {
         Kind::Log => textlog::refused_line(input, k),
         Kind::Log8 => shortlog::refused_line_8(input, k),
         Kind::Log10 => shortlog::refused_line_10(input, k),
-        Kind::Records => 0,
-    }
+        Kind::Records => return None,
+    };
+    if line == 0 { None } else { Some(line) }
 }
 
 // Writes the sample file of the input, or its refusal.
@@ -48,13 +49,12 @@ fn write_sample(
     kind: Kind,
     input: &[u8],
     label: &[u8],
-    k: u32,
-    size: u16,
+    packets: Packets,
 ) -> io::Result<()> {
     let mut out = [0u8; sample::LONGEST];
-    let converted = convert(kind, input, label, k, size, &mut out);
+    let converted = convert(kind, input, label, packets, &mut out);
     if converted.refusal != 0 {
-        let line = refused_line(kind, input, k);
+        let line = refused_line(kind, input, packets.k);
         return write_refusal(rt, converted.refusal, input, line);
     }
     write_first(rt, &out, converted.length as usize)?;
@@ -62,7 +62,7 @@ fn write_sample(
 }
 
 // Takes the label, reads the whole input and writes its sample file.
-fn import(rt: &(impl Env + Input + Print), kind: Kind, k: u32, size: u16) -> io::Result<()> {
+fn import(rt: &(impl Env + Input + Print), kind: Kind, packets: Packets) -> io::Result<()> {
     let mut word = [0u8; ARGUMENT_OCTETS];
     let label = argument(rt, LABEL_INDEX, &mut word);
     let mut room = [0u8; INPUT_OCTETS];
@@ -70,18 +70,13 @@ fn import(rt: &(impl Env + Input + Print), kind: Kind, k: u32, size: u16) -> io:
     if MAX_INPUT < input.len() {
         return write_word(rt, b"the input has over 262144 octets\n");
     }
-    write_sample(rt, kind, input, label, k, size)
+    write_sample(rt, kind, input, label, packets)
 }
 
 // Reads the argument at an index as a number.
-fn number_at(rt: &impl Env, index: usize) -> Argument {
+fn number_at(rt: &impl Env, index: usize) -> Option<u32> {
     let mut word = [0u8; 32];
     argument_in(argument(rt, index, &mut word))
-}
-
-// Says that the argument is no payload size.
-fn write_no_size(rt: &impl Print) -> io::Result<()> {
-    write_word(rt, b"the payload size is no number from 0 to 65535\n")
 }
 
 // Returns the kind of input that the argument at an index names; any other word means a text log.
@@ -100,16 +95,14 @@ fn kind_at(rt: &impl Env, index: usize) -> Kind {
 
 // Reads K and the payload size, and imports.
 fn import_kind(rt: &(impl Env + Input + Print), kind: Kind) -> io::Result<()> {
-    let Argument::Given(k) = number_at(rt, K_INDEX) else {
+    let Some(k) = number_at(rt, K_INDEX) else {
         return write_word(rt, b"K is no number from 0 to 4294967295\n");
     };
-    let Argument::Given(size) = number_at(rt, SIZE_INDEX) else {
-        return write_no_size(rt);
+    let size = number_at(rt, SIZE_INDEX).and_then(|size| u16::try_from(size).ok());
+    let Some(size) = size else {
+        return write_word(rt, b"the payload size is no number from 0 to 65535\n");
     };
-    if 65_535 < size {
-        return write_no_size(rt);
-    }
-    import(rt, kind, k, size as u16)
+    import(rt, kind, Packets { k, size })
 }
 
 // Checks the number of arguments, and imports.

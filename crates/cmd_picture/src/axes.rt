@@ -1,14 +1,12 @@
 // The axes of a panel: a grid line and a number at each tick, and the frame.
 ghost use Rattle.std.specs.Prelude.{◌≤◌};
 
-use crate::panel::{
-    Panel, across, bottom, down, height_of, left_of, plus, right, tick_step, top_of, width_of,
-};
-use crate::text::{write_number, write_shape, write_word};
-use std::io;
+use crate::panel::{Panel, tick_step};
+use crate::shown::Pixels;
+use std::{fmt, io};
 
 // The unit of an axis: a unit of time, for values in microseconds; positions, each drawn as two halves; or plain numbers.
-#[derive(Clone, Copy)]
+#[derive(Clone, Copy, Debug, PartialEq, Eq)]
 pub(crate) enum Unit {
     Milliseconds,
     Seconds,
@@ -19,74 +17,70 @@ pub(crate) enum Unit {
     Things,
 }
 
-// Returns the unit for a span of microseconds, so that its numbers have at most five digits before the point.
-pub(crate) fn unit_for(span: u64) -> Unit {
-    if span < 100000000 {
-        return Unit::Milliseconds;
-    }
-    if span < 100000000000 {
-        return Unit::Seconds;
-    }
-    if span < 100000000000000 {
-        return Unit::ThousandSeconds;
-    }
-    if span < 100000000000000000 {
-        return Unit::MillionSeconds;
-    }
-    Unit::BillionSeconds
-}
-
-// Writes the name of a unit of time.
-pub(crate) fn write_unit(rt: &impl Print, unit: Unit) -> io::Result<()> {
-    match unit {
-        Unit::Milliseconds => write_word(rt, b"ms"),
-        Unit::Seconds => write_word(rt, b"s"),
-        Unit::ThousandSeconds => write_word(rt, b"thousand s"),
-        Unit::MillionSeconds => write_word(rt, b"million s"),
-        Unit::BillionSeconds => write_word(rt, b"billion s"),
-        Unit::Positions => Ok(()),
-        Unit::Things => Ok(()),
-    }
-}
-
-// Writes a number of thousandths as decimals, without trailing zeros.
-fn write_decimals(rt: &impl Print, thousandths: u64) -> io::Result<()> {
-    if thousandths == 0 {
-        return Ok(());
-    }
-    write_word(rt, b".")?;
-    write_number(rt, thousandths / 100)?;
-    if thousandths % 100 == 0 {
-        return Ok(());
-    }
-    write_number(rt, thousandths / 10 % 10)?;
-    if thousandths % 10 != 0 {
-        write_number(rt, thousandths % 10)?;
-    }
-    Ok(())
-}
-
-// Writes the value of a tick.
-fn write_value(rt: &impl Print, value: u64, unit: Unit) -> io::Result<()> {
-    match unit {
-        Unit::Milliseconds => {
-            write_number(rt, value / 1000)?;
-            write_decimals(rt, value % 1000)
+impl Unit {
+    // Returns the unit for a span of microseconds, so that its numbers have at most five digits before the point.
+    pub(crate) fn for_span(span: u64) -> Unit {
+        match span {
+            0..100_000_000 => Unit::Milliseconds,
+            100_000_000..100_000_000_000 => Unit::Seconds,
+            100_000_000_000..100_000_000_000_000 => Unit::ThousandSeconds,
+            100_000_000_000_000..100_000_000_000_000_000 => Unit::MillionSeconds,
+            _ => Unit::BillionSeconds,
         }
-        Unit::Seconds => write_number(rt, value / 1000000),
-        Unit::ThousandSeconds => write_number(rt, value / 1000000000),
-        Unit::MillionSeconds => write_number(rt, value / 1000000000000),
-        Unit::BillionSeconds => write_number(rt, value / 1000000000000000),
-        Unit::Positions => write_number(rt, value),
-        Unit::Things => write_number(rt, value),
+    }
+
+    // Returns the name of a unit of time.
+    pub(crate) fn name(self) -> &'static str {
+        match self {
+            Unit::Milliseconds => "ms",
+            Unit::Seconds => "s",
+            Unit::ThousandSeconds => "thousand s",
+            Unit::MillionSeconds => "million s",
+            Unit::BillionSeconds => "billion s",
+            Unit::Positions | Unit::Things => "",
+        }
+    }
+
+    // Returns how far along its axis a value is.
+    fn along(self, value: u64) -> u64 {
+        match self {
+            Unit::Positions => value.saturating_mul(2),
+            _ => value,
+        }
     }
 }
 
-// Returns how far along its axis a value of a unit is.
-fn along(value: u64, unit: Unit) -> u64 {
-    match unit {
-        Unit::Positions => plus(value, value),
-        _ => value,
+// The value of a tick, written in its unit; milliseconds have decimals, without trailing zeros.
+#[derive(Clone, Copy)]
+struct Value {
+    value: u64,
+    unit: Unit,
+}
+
+impl fmt::Display for Value {
+    fn fmt<W: fmt::Write>(&self, f: &mut fmt::Formatter<W>) -> fmt::Result {
+        let value = self.value;
+        let whole = match self.unit {
+            Unit::Milliseconds => value / 1000,
+            Unit::Seconds => value / 1_000_000,
+            Unit::ThousandSeconds => value / 1_000_000_000,
+            Unit::MillionSeconds => value / 1_000_000_000_000,
+            Unit::BillionSeconds => value / 1_000_000_000_000_000,
+            Unit::Positions | Unit::Things => value,
+        };
+        if self.unit != Unit::Milliseconds || value % 1000 == 0 {
+            return write!(f, "{whole}");
+        }
+        let tenths = value / 100 % 10;
+        let hundredths = value / 10 % 100;
+        let thousandths = value % 1000;
+        if value % 100 == 0 {
+            write!(f, "{whole}.{tenths}")
+        } else if value % 10 == 0 {
+            write!(f, "{whole}.{hundredths:02}")
+        } else {
+            write!(f, "{whole}.{thousandths:03}")
+        }
     }
 }
 
@@ -94,22 +88,17 @@ fn along(value: u64, unit: Unit) -> u64 {
 fn write_tick_below(
     rt: &impl Print,
     panel: Panel,
-    x: u64,
     value: u64,
+    span: u64,
     unit: Unit,
 ) -> io::Result<()> {
-    let end = bottom(panel);
-    write_shape(
-        rt,
-        b"<path class='g' d='MA BVC'/>",
-        x,
-        top_of(panel),
-        end,
-        0,
-    )?;
-    write_shape(rt, b"<text class='m' x='A' y='B'>", x, end + 180, 0, 0)?;
-    write_value(rt, value, unit)?;
-    write_word(rt, b"</text>\n")
+    let x = Pixels(panel.across(unit.along(value), span));
+    let top = Pixels(panel.top());
+    let bottom = Pixels(panel.bottom());
+    let y = Pixels(panel.bottom() + 180);
+    let value = Value { value, unit };
+    print!(rt; "<path class='g' d='M{x} {top}V{bottom}'/>")?;
+    print!(rt; "<text class='m' x='{x}' y='{y}'>{value}</text>\n")
 }
 
 // Writes the ticks on the axis below a panel, from 0 up to the greatest value, if the axis has a span.
@@ -121,20 +110,10 @@ pub(crate) fn write_ticks_below(
     unit: Unit,
 ) -> io::Result<()> {
     let step = tick_step(greatest);
-    let mut value: u64 = 0;
-    loop {
-        write_tick_below(
-            rt,
-            panel,
-            across(panel, along(value, unit), span),
-            value,
-            unit,
-        )?;
-        if greatest - value < step {
-            return Ok(());
-        }
-        value += step;
+    for tick in 0..=greatest / step {
+        write_tick_below(rt, panel, tick * step, span, unit)?;
     }
+    Ok(())
 }
 
 // Writes the tick of a value on the axis beside a panel, after a sign.
@@ -142,31 +121,20 @@ fn write_tick_beside(
     rt: &impl Print,
     panel: Panel,
     y: u64,
-    sign: &[u8],
+    sign: &str,
     value: u64,
     unit: Unit,
 ) -> io::Result<()>
     requires { y ≤ 14600 }
 {
-    write_shape(
-        rt,
-        b"<path class='g' d='MA BHC'/>",
-        left_of(panel),
-        y,
-        right(panel),
-        0,
-    )?;
-    write_shape(
-        rt,
-        b"<text class='e' x='A' y='B'>",
-        left_of(panel) - 70,
-        y + 45,
-        0,
-        0,
-    )?;
-    write_word(rt, sign)?;
-    write_value(rt, value, unit)?;
-    write_word(rt, b"</text>\n")
+    let left = Pixels(panel.left());
+    let right = Pixels(panel.right());
+    let end = Pixels(panel.left() - 70);
+    let base = Pixels(y + 45);
+    let y = Pixels(y);
+    let value = Value { value, unit };
+    print!(rt; "<path class='g' d='M{left} {y}H{right}'/>")?;
+    print!(rt; "<text class='e' x='{end}' y='{base}'>{sign}{value}</text>\n")
 }
 
 // The axis beside a panel: the value at its base, and how far it extends below and above the base.
@@ -177,121 +145,68 @@ pub(crate) struct Levels {
     pub(crate) above: u64,
 }
 
-// Returns the length of an axis beside a panel.
-pub(crate) fn span_of(levels: Levels) -> u64 {
-    plus(levels.below, levels.above)
-}
-
-// Writes the ticks from the base of an axis up.
-fn write_ticks_up(
-    rt: &impl Print,
-    panel: Panel,
-    levels: Levels,
-    step: u64,
-    unit: Unit,
-) -> io::Result<()>
-    requires { 1 ≤ step }
-{
-    let span = span_of(levels);
-    let above = levels.above;
-    let mut value: u64 = 0;
-    loop {
-        let y = down(panel, plus(levels.below, value), span);
-        write_tick_beside(rt, panel, y, b"", plus(levels.base, value), unit)?;
-        if above - value < step {
-            return Ok(());
-        }
-        value += step;
+impl Levels {
+    // Returns the length of the axis.
+    pub(crate) fn span(self) -> u64 {
+        self.below.saturating_add(self.above)
     }
-}
 
-// Writes the ticks below the base of an axis, which have a minus sign.
-fn write_ticks_down(
-    rt: &impl Print,
-    panel: Panel,
-    levels: Levels,
-    step: u64,
-    unit: Unit,
-) -> io::Result<()>
-    requires { 1 ≤ step }
-{
-    let span = span_of(levels);
-    let below = levels.below;
-    let mut value: u64 = 0;
-    loop {
-        if below - value < step {
-            return Ok(());
-        }
-        value += step;
-        write_tick_beside(
-            rt,
-            panel,
-            down(panel, below - value, span),
-            b"-",
-            value,
-            unit,
-        )?;
+    // Returns how far from the upper edge of the picture a value above the base is drawn.
+    pub(crate) fn y_above(self, panel: Panel, value: u64) -> u64
+        ensures { (2000 ≤ result) × (result ≤ 14600) }
+    {
+        panel.down(self.below.saturating_add(value), self.span())
     }
-}
 
-// Writes the ticks on the axis beside a panel.
-pub(crate) fn write_ticks_beside(
-    rt: &impl Print,
-    panel: Panel,
-    levels: Levels,
-    unit: Unit,
-) -> io::Result<()> {
-    let step = tick_step(span_of(levels));
-    write_ticks_up(rt, panel, levels, step, unit)?;
-    write_ticks_down(rt, panel, levels, step, unit)
+    // Returns how far from the upper edge of the picture a value below the base is drawn.
+    pub(crate) fn y_below(self, panel: Panel, value: u64) -> u64
+        ensures { (2000 ≤ result) × (result ≤ 14600) }
+    {
+        panel.down(self.below.saturating_sub(value), self.span())
+    }
+
+    // Writes the ticks of the axis: from the base up, and then those below it, which have a minus sign.
+    pub(crate) fn write_ticks(self, rt: &impl Print, panel: Panel, unit: Unit) -> io::Result<()> {
+        let step = tick_step(self.span());
+        for tick in 0..=self.above / step {
+            let value = tick * step;
+            let y = self.y_above(panel, value);
+            write_tick_beside(rt, panel, y, "", self.base.saturating_add(value), unit)?;
+        }
+        for tick in 1..=self.below / step {
+            let value = tick * step;
+            let y = self.y_below(panel, value);
+            write_tick_beside(rt, panel, y, "-", value, unit)?;
+        }
+        Ok(())
+    }
 }
 
 // Writes the two lines of a panel's frame.
 pub(crate) fn write_frame(rt: &impl Print, panel: Panel) -> io::Result<()> {
-    write_shape(
-        rt,
-        b"<path class='a' d='MA BVCHD'/>\n",
-        left_of(panel),
-        top_of(panel),
-        bottom(panel),
-        right(panel),
-    )
+    let left = Pixels(panel.left());
+    let top = Pixels(panel.top());
+    let bottom = Pixels(panel.bottom());
+    let right = Pixels(panel.right());
+    print!(rt; "<path class='a' d='M{left} {top}V{bottom}H{right}'/>\n")
 }
 
 // Writes the beginning of the name of the axis below a panel.
 pub(crate) fn begin_name_below(rt: &impl Print, panel: Panel) -> io::Result<()> {
-    write_shape(
-        rt,
-        b"<text class='m' x='A' y='B'>",
-        left_of(panel) + width_of(panel) / 2,
-        bottom(panel) + 390,
-        0,
-        0,
-    )
+    let x = Pixels(panel.left() + panel.width() / 2);
+    let y = Pixels(panel.bottom() + 390);
+    print!(rt; "<text class='m' x='{x}' y='{y}'>")
 }
 
 // Writes the beginning of the name of the axis beside a panel on the left side.
 pub(crate) fn begin_name_beside(rt: &impl Print, panel: Panel) -> io::Result<()> {
-    write_shape(
-        rt,
-        b"<text class='m' transform='translate(24 A)rotate(-90)'>",
-        top_of(panel) + height_of(panel) / 2,
-        0,
-        0,
-        0,
-    )
+    let y = Pixels(panel.top() + panel.height() / 2);
+    print!(rt; "<text class='m' transform='translate(24 {y})rotate(-90)'>")
 }
 
 // Writes the title of a panel.
-pub(crate) fn write_title(rt: &impl Print, panel: Panel, words: &[u8]) -> io::Result<()> {
-    write_shape(
-        rt,
-        b"<text x='A' y='B'>",
-        left_of(panel),
-        top_of(panel) - 120,
-        0,
-        0,
-    )?;
-    write_word(rt, words)?;
-    write_word(rt, b"</text>\n")
+pub(crate) fn write_title(rt: &impl Print, panel: Panel, words: &str) -> io::Result<()> {
+    let x = Pixels(panel.left());
+    let y = Pixels(panel.top() - 120);
+    print!(rt; "<text x='{x}' y='{y}'>{words}</text>\n")
 }

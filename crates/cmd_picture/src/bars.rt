@@ -1,140 +1,126 @@
 // The panel of extents: a bar for each of the bins 1, 2, 3-4, 5-8 and so on up to 2049-4095; the last bin drawn is the last with an extent.
-ghost use Rattle.std.specs.Prelude.{◌≤◌};
+ghost use Rattle.std.specs.Prelude.{◌≤◌, length};
 
 use crate::axes::{Unit, begin_name_below, write_frame, write_ticks_below, write_title};
-use crate::panel::{Panel, across, down, left_of, span_for};
-use crate::rows::extent_of;
-use crate::text::{write_number, write_shape, write_word};
-use std::io;
-use std::num::{wrapping_add_u64, wrapping_sub_u64};
+use crate::panel::{Panel, span_for};
+use crate::records::Record;
+use crate::shown::Pixels;
+use std::{fmt, io};
 
 // The number of bins.
-const BINS: u32 = 13;
+const BINS: usize = 13;
 
-// Returns the greatest extent of a bin: 1, 2, 4, 8 and so on; 4095 for the last bin.
-fn bin_end(bin: u32) -> u64
-    ensures { result ≤ 4095 }
-{
-    if bin < 12 {
-        let end = 1u64 << bin;
-        if end < 4095 {
-            return end;
-        }
-    }
-    4095
-}
-
-// Returns the least extent of a bin.
-fn bin_start(bin: u32) -> u64 {
-    if bin == 0 {
-        return 1;
-    }
-    bin_end(bin - 1) + 1
-}
-
-// Counts the extents in a bin.
-fn count_in(rows: &[u64], arrivals: u32, bin: u32) -> u64 {
-    let start = bin_start(bin);
-    let end = bin_end(bin);
-    let mut count: u64 = 0;
-    for i in 0..arrivals {
-        let extent = extent_of(rows, i);
-        if start <= extent {
-            if extent <= end {
-                count = wrapping_add_u64(count, 1);
-            }
-        }
-    }
-    count
-}
-
-// The bars of a sample: the number of bins up to the last with an extent, and the greatest count of a bin.
+// A bin: its least and its greatest extent.
 #[derive(Clone, Copy)]
-struct Bars {
-    pub bins: u32,
-    pub greatest: u64,
+struct Bin {
+    start: u64,
+    end: u64,
 }
 
-// Finds the bars of a sample; there is at least one bin.
-fn bars_of(rows: &[u64], arrivals: u32) -> Bars {
-    let mut bins: u32 = 1;
-    let mut greatest: u64 = 0;
-    for bin in 0..BINS {
-        let count = count_in(rows, arrivals, bin);
-        if count != 0 {
-            bins = bin + 1;
-            if greatest < count {
-                greatest = count;
-            }
+// Written as its range, or as one number if it has only one.
+impl fmt::Display for Bin {
+    fn fmt<W: fmt::Write>(&self, f: &mut fmt::Formatter<W>) -> fmt::Result {
+        let start = self.start;
+        let end = self.end;
+        if start < end {
+            write!(f, "{start}-{end}")
+        } else {
+            write!(f, "{start}")
         }
     }
-    Bars { bins, greatest }
 }
 
-// Writes the name of a bin.
-fn write_bin(rt: &impl Print, bin: u32) -> io::Result<()> {
-    let start = bin_start(bin);
-    let end = bin_end(bin);
-    write_number(rt, start)?;
-    if start < end {
-        write_word(rt, b"-")?;
-        write_number(rt, end)?;
+// The bins.
+const ALL_BINS: [Bin; BINS] = [
+    Bin { start: 1, end: 1 },
+    Bin { start: 2, end: 2 },
+    Bin { start: 3, end: 4 },
+    Bin { start: 5, end: 8 },
+    Bin { start: 9, end: 16 },
+    Bin { start: 17, end: 32 },
+    Bin { start: 33, end: 64 },
+    Bin {
+        start: 65,
+        end: 128,
+    },
+    Bin {
+        start: 129,
+        end: 256,
+    },
+    Bin {
+        start: 257,
+        end: 512,
+    },
+    Bin {
+        start: 513,
+        end: 1024,
+    },
+    Bin {
+        start: 1025,
+        end: 2048,
+    },
+    Bin {
+        start: 2049,
+        end: 4095,
+    },
+];
+
+// The bar of a bin: the number of extents in it.
+#[derive(Clone, Copy)]
+struct Bar {
+    bin: Bin,
+    count: u64,
+}
+
+// Returns the bar of a bin.
+fn bar_of(records: &[Record], bin: Bin) -> Bar {
+    let count = records
+        .iter()
+        .filter(|record| bin.start <= record.extent && record.extent <= bin.end)
+        .count() as u64;
+    Bar { bin, count }
+}
+
+// Writes a bar and the name of its bin. `from_end` is the number of bars from this one to the last of `bars`: the first is at the top.
+fn write_bar(rt: &impl Print, bar: Bar, from_end: usize, bars: usize, span: u64) -> io::Result<()>
+    requires { (1 ≤ from_end) × (from_end ≤ 13) × (bars ≤ 13) }
+{
+    let panel = Panel::Extents;
+    let bin = bar.bin;
+    let level = 10 * from_end as u64;
+    let span_down = 10 * bars as u64;
+    let top = Pixels(panel.down(level - 2, span_down));
+    let end = Pixels(panel.down(level - 8, span_down));
+    let base = Pixels(panel.down(level - 5, span_down) + 45);
+    let left = Pixels(panel.left());
+    let right = Pixels(panel.across(bar.count, span));
+    let beside = Pixels(panel.left() - 70);
+    print!(rt; "<text class='e' x='{beside}' y='{base}'>{bin}</text>")?;
+    print!(rt; "<path class='b' d='M{left} {top}H{right}V{end}")?;
+    print!(rt; "H{left}z'/>\n")
+}
+
+// Writes the bars.
+fn write_rows(rt: &impl Print, bars: &[Bar], span: u64) -> io::Result<()>
+    requires { length bars.now ≤ 13 }
+{
+    for (i, bar) in bars.iter().enumerate() {
+        write_bar(rt, *bar, bars.len() - i, bars.len(), span)?;
     }
     Ok(())
 }
 
-// Writes the bar of a bin and its name. The first bin is at the top.
-fn write_bar(rt: &impl Print, bin: u32, bins: u32, count: u64, span: u64) -> io::Result<()> {
+// Writes the panel of the extents. There is at least one bar.
+pub(crate) fn write_bars(rt: &impl Print, records: &[Record]) -> io::Result<()> {
     let panel = Panel::Extents;
-    let span_down = 10 * (bins as u64);
-    let from_end = wrapping_sub_u64(span_down, 10 * (bin as u64));
-    let top = down(panel, wrapping_sub_u64(from_end, 2), span_down);
-    let end = down(panel, wrapping_sub_u64(from_end, 8), span_down);
-    let middle = down(panel, wrapping_sub_u64(from_end, 5), span_down);
-    write_shape(
-        rt,
-        b"<text class='e' x='A' y='B'>",
-        left_of(panel) - 70,
-        middle + 45,
-        0,
-        0,
-    )?;
-    write_bin(rt, bin)?;
-    write_word(rt, b"</text>")?;
-    write_shape(
-        rt,
-        b"<path class='b' d='MA BHCVD",
-        left_of(panel),
-        top,
-        across(panel, count, span),
-        end,
-    )?;
-    write_shape(rt, b"HAz'/>\n", left_of(panel), 0, 0, 0)
-}
-
-// Writes the bars of all bins.
-fn write_rows(
-    rt: &impl Print,
-    rows: &[u64],
-    arrivals: u32,
-    bars: Bars,
-    span: u64,
-) -> io::Result<()> {
-    for bin in 0..bars.bins {
-        write_bar(rt, bin, bars.bins, count_in(rows, arrivals, bin), span)?;
-    }
-    Ok(())
-}
-
-// Writes the panel of the extents.
-pub(crate) fn write_bars(rt: &impl Print, rows: &[u64], arrivals: u32) -> io::Result<()> {
-    let panel = Panel::Extents;
-    let bars = bars_of(rows, arrivals);
-    let span = span_for(bars.greatest, 10);
+    let bars = ALL_BINS.map(|bin| bar_of(records, bin));
+    let last = bars.iter().rposition(|bar| bar.count != 0).unwrap_or(0);
+    let greatest = bars.iter().map(|bar| bar.count).max().unwrap_or(0);
+    let span = span_for(greatest, 10);
     write_ticks_below(rt, panel, span, span, Unit::Things)?;
-    write_rows(rt, rows, arrivals, bars, span)?;
+    write_rows(rt, &bars[..=last], span)?;
     write_frame(rt, panel)?;
-    write_title(rt, panel, b"late packets by extent, in packets")?;
+    write_title(rt, panel, "late packets by extent, in packets")?;
     begin_name_below(rt, panel)?;
-    write_word(rt, b"late packets</text>\n")
+    print!(rt; "late packets</text>\n")
 }

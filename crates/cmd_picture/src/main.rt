@@ -8,69 +8,50 @@ mod head;
 mod late;
 mod numbers;
 mod panel;
-mod rows;
+mod records;
 mod settings;
+mod shown;
 mod stairs;
-mod text;
 
+use bars::write_bars;
 use head::write_head;
-use late::write_late_times;
-use metrics::record_rows;
-use numbers::write_numbers;
+use late::LatePanel;
+use numbers::NumberPanel;
 use panel::Panel;
-use program::{SAMPLE_ROOM, read_input, write_number, write_word};
-use rfc4737::judge::ARRIVALS_MOST;
+use program::{SAMPLE_ROOM, read_input};
+use records::{MAX_RECORDS, Record, read_records};
 use rfc4737::refusal::NONE;
 use sample::Layout;
-use settings::{Settings, settings_of};
+use settings::settings_of;
 use stairs::write_stairs;
 use std::io;
 
-// The length of the rows of the longest sample: 8 numbers for each record.
-const ROWS_LEN: usize = 8 * (ARRIVALS_MOST as usize);
-
 // The greatest number of arrivals whose sequence numbers are drawn over positions.
-const MAX_NUMBERED: u32 = 300;
+const MAX_NUMBERED: usize = 300;
 
-// Draws the left side: late times, and below them sequence numbers if there are not too many.
-fn draw_left(
-    rt: &impl Print,
-    file: &[u8],
-    layout: Layout,
-    rows: &[u64],
-    settings: Settings,
-) -> io::Result<()> {
-    if MAX_NUMBERED < layout.arrivals {
-        return write_late_times(rt, Panel::TallLateTimes, file, layout, rows, settings);
-    }
-    write_late_times(rt, Panel::LateTimes, file, layout, rows, settings)?;
-    write_numbers(rt, file, layout, rows)
-}
-
-// Draws the panels of a sample from the rows of its records.
-fn draw_panels(rt: &impl Print, file: &[u8], settings: Settings) -> io::Result<()> {
-    let mut rows = [0u64; ROWS_LEN];
-    let layout = record_rows(file, &mut rows);
-    draw_left(rt, file, layout, &rows, settings)?;
-    write_stairs(rt, file, settings)?;
-    bars::write_bars(rt, &rows, layout.arrivals)
-}
-
-// Draws an accepted sample.
+// Draws an accepted sample. On the left late times, and below them sequence numbers if there are not too many.
 fn draw(rt: &impl Print, file: &[u8], layout: Layout) -> io::Result<()> {
+    let mut room = [Record::NONE; MAX_RECORDS];
+    let records = read_records(file, layout, &mut room);
     let settings = settings_of(file);
-    write_head(rt, file, layout, settings)?;
-    draw_panels(rt, file, settings)?;
-    write_word(rt, b"</svg>\n")
+    write_head(rt, file, layout, records, settings)?;
+    if MAX_NUMBERED < records.len() {
+        LatePanel::new(Panel::TallLateTimes, records, settings).write(rt)?;
+    } else {
+        LatePanel::new(Panel::LateTimes, records, settings).write(rt)?;
+        NumberPanel::new(records).write(rt)?;
+    }
+    write_stairs(rt, file, settings)?;
+    write_bars(rt, records)?;
+    rt.print("</svg>\n")
 }
 
 // Draws a sample, or prints the line of a refused input.
 fn draw_input(rt: &impl Print, file: &[u8]) -> io::Result<()> {
     let layout = sample::check(file);
-    if layout.refusal != NONE {
-        write_word(rt, b"refused ")?;
-        write_number(rt, layout.refusal as u64)?;
-        return write_word(rt, b"\n");
+    let refusal = layout.refusal;
+    if refusal != NONE {
+        return print!(rt; "refused {refusal}\n");
     }
     draw(rt, file, layout)
 }

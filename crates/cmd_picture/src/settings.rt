@@ -11,6 +11,17 @@ pub(crate) struct Sizes {
     pub(crate) octets: u64,
 }
 
+// The setting for all first arrivals: the greatest needs.
+impl From<SampleNeeds> for Sizes {
+    fn from(needs: SampleNeeds) -> Sizes {
+        Sizes {
+            time: needs.time,
+            packets: needs.packets,
+            octets: needs.octets,
+        }
+    }
+}
+
 // The two settings of a sample.
 #[derive(Clone, Copy)]
 pub(crate) struct Settings {
@@ -18,27 +29,15 @@ pub(crate) struct Settings {
     pub(crate) all: Sizes,
 }
 
-// Returns the least size for 95 percent of the first arrivals.
-fn size_for_most(file: &[u8], measure: Measure) -> u64 {
-    buffering::least(file, measure, 95, 100).size
-}
-
-// Returns the settings for all first arrivals: the greatest needs.
-fn sizes_for_all(needs: SampleNeeds) -> Sizes {
-    Sizes {
-        time: needs.time,
-        packets: needs.packets,
-        octets: needs.octets,
-    }
-}
-
 // Returns the settings of a sample.
 pub(crate) fn settings_of(file: &[u8]) -> Settings {
-    let most = Sizes {
-        time: size_for_most(file, Measure::Time),
-        packets: size_for_most(file, Measure::Packets),
-        octets: size_for_most(file, Measure::Octets),
-    };
-    let all = sizes_for_all(greatest_needs(file));
-    Settings { most, all }
+    let size_for_most = |measure| buffering::least(file, measure, 95, 100).size;
+    Settings {
+        most: Sizes {
+            time: size_for_most(Measure::Time),
+            packets: size_for_most(Measure::Packets),
+            octets: size_for_most(Measure::Octets),
+        },
+        all: Sizes::from(greatest_needs(file)),
+    }
 }

@@ -1,7 +1,6 @@
--- The text of an input, and the buffer that holds it. A text is written whole to the start of a buffer if it fits (`put-fitting`), else
--- not at all (`put-short`). The text of a refused input is the line of its refusal, that of an accepted one its report. An accepted input
--- can be refused only with 8, so `metrics::listing` leaves its text if it fits (`listed-text`). d is the decoded input, old and new are
--- the buffer before and after, n is the length written, and r a refusal or the answer of `listing`. Assumes nothing.
+-- The text of an input, and the buffer that holds it. The text of a refused input is the line of its refusal, that of an accepted one its
+-- report. An accepted input can be refused only with 8, so `metrics::listing` leaves its text if it fits (`listed-text`). d is the decoded
+-- input, old and new are the buffer before and after, and r a refusal or the answer of `listing`. Assumes nothing.
 use mathlib.Core.Path.{◌≡◌, refl, sym, ap, ◌∙◌}
 use mathlib.Core.Bool.{Bool, true, false}
 use mathlib.Core.List.{List, [], ◌∷◌}
@@ -10,7 +9,7 @@ use native.Mathlib.Omega.{arith}
 use lib.Dec.{ltb}
 use lib.ListN.{length}
 use borrow.Author.Tests.{ltb-true, ltb-false, lt-leb, le-leb}
-use Rattle.octets.specs.Memory.{over, put}
+use Rattle.octets.specs.Memory.{over}
 use Rattle.octets.proofs.Memory.{put-none, put-over}
 use Rattle.rfc4737.specs.Refusals.{refusal_if, first_refusal, output_short}
 use Rattle.listing.specs.Lines.{refused_line}
@@ -20,20 +19,6 @@ use Rattle.sample.specs.Output.{if_none}
 use Rattle.sample.specs.Decode.{Decoded, refused, accepted, decoded_refusal}
 use Rattle.sample.specs.Format.{Sample}
 use Rattle.cmd_report.specs.Text.{report_text, PutWhole}
-
--- a text put at the start of memory, where it does not fit
-pub put-short : (text old : List ℕ) {n : ℕ} {new : List ℕ} → n ≡ length text → new ≡ put 0 text old → length old < n
-    → PutWhole text old 0 new
-put-short text old e w h =
-    let s : length old < length text = omega arith in
-    record { answer = simp (lt-leb _ _ s); memory = w }
-
--- and where it does
-pub put-fitting : (text old : List ℕ) {n : ℕ} {new : List ℕ} → n ≡ length text → new ≡ put 0 text old → n ≤ length old
-    → PutWhole text old n new
-put-fitting text old e w h =
-    let s : length text ≤ length old = omega arith in
-    record { answer = simp (le-leb _ _ s) e; memory = w }
 
 -- the text of a refused input is the line of its refusal
 pub text-refused : (d : Decoded) {r : ℕ} → r ≡ decoded_refusal d → (r ≡ 0 → ⊥) → report_text d ≡ refused_line r

@@ -9,7 +9,7 @@ ghost use Rattle.sample.specs.Output.{Output};
 ghost use Rattle.cmd_summary.specs.Shown.{form_text, shown_text};
 
 use program::{SAMPLE_ROOM, argument_is, read_input, write_first};
-use rfc4737::refusal::{NONE, OUTPUT_SHORT};
+use rfc4737::refusal::{NONE, Refusal};
 use sample::WriteAnswer;
 use std::io;
 use std::rt::Env;
@@ -23,21 +23,16 @@ enum Form {
     All,
 }
 
-// Writes the line of a refused input to the start of `out`.
+// Writes the line of a refused input to the start of `out`. The table's program has its own, which has room for the line and returns its
+// length. The answer here is one of `summary`, with 8 if the line does not fit.
 fn refuse(refusal: u32, out: &mut [u8]) -> WriteAnswer
     ensures { Output 0 (refused_line refusal) out.old result out.new }
 {
     let n = listing::put_refused(out, 0, refusal);
     if out.len() < n {
-        return WriteAnswer {
-            refusal: OUTPUT_SHORT,
-            length: 0,
-        };
+        return WriteAnswer::from(Err(Refusal::OutputShort));
     }
-    WriteAnswer {
-        refusal: NONE,
-        length: n as u32,
-    }
+    WriteAnswer::from(Ok(n as u32))
 }
 
 // Writes the summary of a sample to the start of `out`.

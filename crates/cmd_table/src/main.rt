@@ -16,7 +16,7 @@ use sample::WriteAnswer;
 use std::io;
 use table::{PART_OCTETS, PARTS};
 
-// Writes a part of the table of a sample to the start of `out`.
+// Writes a part of the table of a sample to the start of `out`. The form is a `bool`, as `shown_text` and `PartTo` have it.
 fn write_form(json: bool, input: &[u8], part: u32, out: &mut [u8]) -> WriteAnswer
     ensures { PartTo json (decode input.now) part out.old result out.new
         × (length (part_text json (decode input.now) part) ≤ part_octets) × PartsJoin json (decode input.now) }
@@ -28,6 +28,7 @@ fn write_form(json: bool, input: &[u8], part: u32, out: &mut [u8]) -> WriteAnswe
 }
 
 // Writes the line of a refused input to the start of `out`, which has room for it. Returns its length.
+// The summary's program has its own, whose buffer may be too short.
 fn refuse(refusal: u32, out: &mut [u8]) -> usize
     requires { part_octets ≤ length out.old }
     ensures { (result ≡ length (refused_line refusal)) × (out.new ≡ over (refused_line refusal) out.old) }
@@ -61,10 +62,8 @@ fn print_part(rt: &impl Print, json: bool, input: &[u8], part: u32) -> io::Resul
 
 // Prints all parts of the text of an input.
 fn print_parts(rt: &impl Print, json: bool, input: &[u8]) -> io::Result<()> {
-    let mut part: u32 = 0;
-    while part < PARTS {
+    for part in 0..PARTS {
         print_part(rt, json, input, part)?;
-        part += 1;
     }
     Ok(())
 }

@@ -5,110 +5,85 @@
 
 mod ratio;
 
-use program::{
-    ARGUMENT_OCTETS, SAMPLE_ROOM, argument, argument_count, open_argument, read, write_word,
-};
+use program::{ARGUMENT_OCTETS, SAMPLE_ROOM, argument, argument_count, open_argument, read};
 use ratio::{Standing, standing_of, write_ratio};
+use rfc4737::Counts;
+use rfc4737::refusal::NONE;
 use std::io;
 use std::io::Read;
 use std::rt::{Env, Files};
 
-// Writes the name of a sample, and its label if it has one.
-fn write_name(rt: &impl Print, name: &[u8], file: &[u8]) -> io::Result<()> {
-    write_word(rt, name)?;
-    let label = sample::label(file);
-    if label.len() == 0 {
-        return Ok(());
+// A sample file, and the name to print for it.
+#[derive(Clone, Copy)]
+struct Named<'a> {
+    name: &'a [u8],
+    file: &'a [u8],
+}
+
+impl Named<'_> {
+    // Returns the counts of the sample.
+    fn counts(self) -> Counts {
+        metrics::counts(self.file).counts
     }
-    write_word(rt, b" (")?;
-    write_word(rt, label)?;
-    write_word(rt, b")")
+
+    // Writes the accepted sample: its name, its label if it has one, and its ratio.
+    fn write(self, rt: &impl Print, between: &str) -> io::Result<()> {
+        rt.write_all(self.name)?;
+        let label = sample::label(self.file);
+        if !label.is_empty() {
+            rt.print(" (")?;
+            rt.write_all(label)?;
+            rt.print(")")?;
+        }
+        rt.print(between)?;
+        let counts = self.counts();
+        write_ratio(rt, counts.reordered, counts.arrived)
+    }
 }
 
-// Writes the reordered ratio of an accepted sample.
-fn write_sample_ratio(rt: &impl Print, file: &[u8]) -> io::Result<()> {
-    let counts = metrics::counts(file).counts;
-    write_ratio(rt, counts.reordered, counts.arrived)
-}
-
-// Writes an accepted sample with its ratio.
-fn write_sample(rt: &impl Print, name: &[u8], between: &[u8], file: &[u8]) -> io::Result<()> {
-    write_name(rt, name, file)?;
-    write_word(rt, between)?;
-    write_sample_ratio(rt, file)
-}
-
-// Writes that the sample `file` is worse than `other`. Both are accepted.
-fn write_worse(
-    rt: &impl Print,
-    name: &[u8],
-    file: &[u8],
-    other_name: &[u8],
-    other: &[u8],
-) -> io::Result<()> {
-    write_sample(rt, name, b" is worse: ", file)?;
-    write_word(rt, b"; ")?;
-    write_sample(rt, other_name, b": ", other)?;
-    write_word(rt, b"\n")
+// Writes that a sample is worse than another. Both are accepted.
+fn write_worse(rt: &impl Print, worse: Named<'_>, other: Named<'_>) -> io::Result<()> {
+    worse.write(rt, " is worse: ")?;
+    rt.print("; ")?;
+    other.write(rt, ": ")?;
+    rt.print("\n")
 }
 
 // Writes that the ratios of two accepted samples are equal.
-fn write_equal(
-    rt: &impl Print,
-    name: &[u8],
-    file: &[u8],
-    other_name: &[u8],
-    other: &[u8],
-) -> io::Result<()> {
-    write_word(rt, b"the ratios are equal: ")?;
-    write_sample(rt, name, b": ", file)?;
-    write_word(rt, b"; ")?;
-    write_sample(rt, other_name, b": ", other)?;
-    write_word(rt, b"\n")
+fn write_equal(rt: &impl Print, first: Named<'_>, second: Named<'_>) -> io::Result<()> {
+    rt.print("the ratios are equal: ")?;
+    first.write(rt, ": ")?;
+    rt.print("; ")?;
+    second.write(rt, ": ")?;
+    rt.print("\n")
 }
 
 // Writes which of two accepted samples is worse.
-fn write_comparison(
-    rt: &impl Print,
-    name: &[u8],
-    file: &[u8],
-    other_name: &[u8],
-    other: &[u8],
-) -> io::Result<()> {
-    let standing = standing_of(metrics::counts(file).counts, metrics::counts(other).counts);
-    match standing {
-        Standing::Equal => write_equal(rt, name, file, other_name, other),
-        Standing::First => write_worse(rt, name, file, other_name, other),
-        Standing::Second => write_worse(rt, other_name, other, name, file),
+fn write_comparison(rt: &impl Print, first: Named<'_>, second: Named<'_>) -> io::Result<()> {
+    match standing_of(first.counts(), second.counts()) {
+        Standing::Equal => write_equal(rt, first, second),
+        Standing::First => write_worse(rt, first, second),
+        Standing::Second => write_worse(rt, second, first),
     }
 }
 
-// Writes the refusal of a sample, if any. Returns whether there is one.
-fn write_refusal(rt: &impl Print, which: &[u8], file: &[u8]) -> io::Result<bool> {
-    let refusal = sample::check(file).refusal;
-    if refusal == 0 {
-        return Ok(false);
-    }
-    write_word(rt, which)?;
-    program::write_refusal(rt, refusal)?;
-    Ok(true)
+// Returns the refusal of a sample, if any.
+fn refusal_of(sample: Named<'_>) -> Option<u32> {
+    let refusal = sample::check(sample.file).refusal;
+    if refusal == NONE { None } else { Some(refusal) }
 }
 
-// Compares two samples.
-fn compare_files(
-    rt: &impl Print,
-    name: &[u8],
-    file: &[u8],
-    other_name: &[u8],
-    other: &[u8],
-) -> io::Result<()> {
-    if write_refusal(rt, b"first ", file)? {
-        return Ok(());
+// Compares two samples, or writes the first refusal.
+fn compare_files(rt: &impl Print, first: Named<'_>, second: Named<'_>) -> io::Result<()> {
+    if let Some(refusal) = refusal_of(first) {
+        rt.print("first ")?;
+        return program::write_refusal(rt, refusal);
     }
-    if write_refusal(rt, b"second ", other)? {
-        return Ok(());
+    if let Some(refusal) = refusal_of(second) {
+        rt.print("second ")?;
+        return program::write_refusal(rt, refusal);
     }
-    write_comparison(rt, name, file, other_name, other)
+    write_comparison(rt, first, second)
 }
 
 // Reads two open files and compares them. Their names are the arguments at two indices.
@@ -119,17 +94,19 @@ fn compare_open(
     first_name: usize,
     second_name: usize,
 ) -> io::Result<()> {
-    let mut one = [0u8; SAMPLE_ROOM];
-    let mut other = [0u8; SAMPLE_ROOM];
+    let mut file = [0u8; SAMPLE_ROOM];
+    let mut other_file = [0u8; SAMPLE_ROOM];
     let mut name = [0u8; ARGUMENT_OCTETS];
     let mut other_name = [0u8; ARGUMENT_OCTETS];
-    compare_files(
-        rt,
-        argument(rt, first_name, &mut name),
-        read(first, &mut one)?,
-        argument(rt, second_name, &mut other_name),
-        read(second, &mut other)?,
-    )
+    let one = Named {
+        name: argument(rt, first_name, &mut name),
+        file: read(first, &mut file)?,
+    };
+    let other = Named {
+        name: argument(rt, second_name, &mut other_name),
+        file: read(second, &mut other_file)?,
+    };
+    compare_files(rt, one, other)
 }
 
 // Opens both files and compares them. Their names are the arguments at two indices.
@@ -139,25 +116,21 @@ fn compare_named(
     second_name: usize,
 ) -> io::Result<()> {
     let Some(mut first) = open_argument(rt, 1) else {
-        return write_word(rt, b"the first sample can't be opened\n");
+        return rt.print("the first sample can't be opened\n");
     };
     let Some(mut second) = open_argument(rt, 2) else {
-        return write_word(rt, b"the second sample can't be opened\n");
+        return rt.print("the second sample can't be opened\n");
     };
     compare_open(rt, &mut first, &mut second, first_name, second_name)
 }
 
 // Compares the files that the arguments name.
 fn main(rt: HostRuntime) -> io::Result<()> {
-    let words = argument_count(&rt);
-    if words == 3 {
-        return compare_named(&rt, 1, 2);
+    match argument_count(&rt) {
+        3 => compare_named(&rt, 1, 2),
+        5 => compare_named(&rt, 3, 4),
+        _ => {
+            rt.print("the arguments are the paths of two sample files, and their names or none\n")
+        }
     }
-    if words == 5 {
-        return compare_named(&rt, 3, 4);
-    }
-    write_word(
-        &rt,
-        b"the arguments are the paths of two sample files, and their names or none\n",
-    )
 }

@@ -3,13 +3,12 @@ ghost use Rattle.std.specs.Prelude.{◌≡◌, ◌*◌, ◌<◌};
 ghost use Rattle.summary.specs.Text.{tenths};
 ghost use Rattle.cmd_worse.specs.Standing.{standing};
 
-use program::{write_number, write_word};
 use rfc4737::Counts;
 use std::io;
 use worse::{greater, reordered_ratio};
 
 // Which of two samples has the greater reordered ratio.
-#[derive(Clone, Copy)]
+#[derive(Clone, Copy, Debug, PartialEq, Eq)]
 pub(crate) enum Standing {
     Equal,
     First,
@@ -42,16 +41,10 @@ fn hundredths(part: u32, whole: u32) -> u64
 // Writes the reordered ratio of a sample: `reordered` of `arrived` packets.
 pub(crate) fn write_ratio(rt: &impl Print, reordered: u32, arrived: u32) -> io::Result<()> {
     if arrived == 0 {
-        return write_word(rt, b"no ratio, as nothing arrived, which counts as 0");
+        return rt.print("no ratio, as nothing arrived, which counts as 0");
     }
-    write_number(rt, reordered as u64)?;
-    write_word(rt, b"/")?;
-    write_number(rt, arrived as u64)?;
     let share = hundredths(reordered, arrived);
-    write_word(rt, b" = ")?;
-    write_number(rt, share / 100)?;
-    write_word(rt, b".")?;
-    write_number(rt, share / 10 % 10)?;
-    write_number(rt, share % 10)?;
-    write_word(rt, b" %")
+    let percent = share / 100;
+    let decimals = share % 100;
+    print!(rt; "{reordered}/{arrived} = {percent}.{decimals:02} %")
 }

@@ -1,8 +1,8 @@
 // The decimal digits of a number of 64 bits as ASCII octets, written into the caller's buffer; module `reading` reads them.
 #![tactic(auto)]
 
-ghost use Rattle.std.specs.Prelude.{◌≡◌, ◌+◌, ◌%◌, ◌≤◌, length};
-ghost use Rattle.octets.specs.Memory.{put, splice};
+ghost use Rattle.std.specs.Prelude.{◌≡◌, ◌+◌, ◌%◌, length};
+ghost use Rattle.octets.specs.Memory.{put};
 ghost use Rattle.decimal.specs.Decimal.{decimal_of};
 
 pub mod reading;
@@ -36,23 +36,22 @@ fn last_digit(n: u64) -> u8
     (48 + n % 10) as u8
 }
 
-// Writes the `n` digits of `v` from `at` on, two at a time, the last ones first.
-fn write_decimal(out: &mut [u8], at: usize, n: usize, v: u64)
-    requires { (n ≡ length (decimal_of v)) × (at + n ≤ length out.old) }
-    ensures { out.new ≡ splice at (decimal_of v) out.old }
+// Writes the digits of `v` over all of `out`, two at a time, the last ones first.
+fn write_decimal(out: &mut [u8], v: u64)
+    requires { length out.old ≡ length (decimal_of v) }
+    ensures { out.new ≡ decimal_of v }
 {
     let mut rest = v;
-    let mut i = n;
+    let mut i = out.len();
     while 1 < i {
         i -= 2;
-        let place = at + i;
         let pair = rest % 100;
-        out[place + 1] = last_digit(pair);
-        out[place] = last_digit(pair / 10);
-        rest = rest / 100;
+        out[i + 1] = last_digit(pair);
+        out[i] = last_digit(pair / 10);
+        rest /= 100;
     }
     if 0 < i {
-        out[at] = last_digit(rest);
+        out[0] = last_digit(rest);
     }
 }
 
@@ -61,10 +60,8 @@ pub fn put_decimal(out: &mut [u8], at: usize, v: u64) -> usize
     ensures { (result ≡ length (decimal_of v)) × (out.new ≡ put at (decimal_of v) out.old) }
 {
     let n = count(v);
-    if at <= out.len() {
-        if n <= out.len() - at {
-            write_decimal(out, at, n, v);
-        }
+    if octets::has_room(out.len(), at, n) {
+        write_decimal(&mut out[at..at + n], v);
     }
     n
 }

@@ -61,17 +61,17 @@ sums-offsets d y h ones = sum-wrong (size_of d) (sample_arrivals d) (sizes-one d
 -- ---- the pairs, one first arrival after the other
 
 -- of none
-pub paired-start : (k : ℕ) (d : Decoded) → PairTree k (firsts (before d 0)) (replicate (k + 1) 0)
-    (record { count = 0; wrong = 0; greatest = 0 })
+pub paired-start : (k : ℕ) (d : Decoded) (p : Pairs) → (p.count ≡ 0) × ((p.wrong ≡ 0) × (p.greatest ≡ 0))
+    → PairTree k (firsts (before d 0)) (replicate (k + 1) 0) p
 unfolding firsts wrong_pairs pairs count byte_offset
-paired-start k d =
+paired-start k d p none =
     record {
       places = length-replicate (k + 1) 0;
       summed = summed-none _ (k + 1) (λ i. refl);
-      count = refl;
-      whole = refl;
-      wrong = refl;
-      small = omega arith;
+      count = none.0;
+      whole = none.0;
+      wrong = none.1.0;
+      small = omega (arith, none.0, none.1);
       above = λ s h. refl;
     }
 

@@ -12,7 +12,8 @@ mod pairs;
 
 use pairs::disorder_of;
 
-// The total of disorder of a sample, at most 8,386,560, and the refusal (0 for none). If the file is refused, the total is 0.
+// The total of disorder of a sample, at most 8,386,560, and the refusal (0 for none). If the file is refused, the total is 0. Both stand
+// side by side, as numbers, since `sample_disorder` of specs/Sample.antt gives both, for C too.
 #[derive(Clone, Copy)]
 #[repr(C)]
 pub struct SampleDisorder {

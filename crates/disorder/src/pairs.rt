@@ -13,22 +13,11 @@ use sample::Layout;
 const PACKET_TABLE_LEN: usize = SENT_MOST as usize + 1;
 
 // The number of first arrivals, the number of pairs of them in the wrong order, and their greatest sequence number.
-#[derive(Clone, Copy)]
+#[derive(Clone, Copy, Default)]
 pub(crate) struct Pairs {
     pub count: u32,
     pub wrong: u32,
     pub greatest: u32,
-}
-
-// Returns the pairs of no arrivals.
-fn no_pairs() -> Pairs
-    ensures { result ≡ record { count = 0; wrong = 0; greatest = 0 } }
-{
-    Pairs {
-        count: 0,
-        wrong: 0,
-        greatest: 0,
-    }
 }
 
 // Returns the pairs after the next arrival; `arrived` tells whether its packet arrived before. A first arrival makes a wrong pair with each
@@ -45,8 +34,8 @@ fn pairs_after(counts: &mut [u32], arrived: bool, number: u32, p: Pairs) -> Pair
         sums::add(counts, number, 1);
         return Pairs {
             count: p.count + 1,
-            wrong: p.wrong,
             greatest: number,
+            ..p
         };
     }
     let lower = sums::sum_to(counts, number);
@@ -54,7 +43,7 @@ fn pairs_after(counts: &mut [u32], arrived: bool, number: u32, p: Pairs) -> Pair
     Pairs {
         count: p.count + 1,
         wrong: p.wrong + (p.count - lower),
-        greatest: p.greatest,
+        ..p
     }
 }
 
@@ -64,15 +53,13 @@ fn disorder_in(file: &[u8], layout: Layout, counts: &mut [u32]) -> u32
     ensures { result ≡ disorder_of (decode file.now) }
 {
     let mut seen = [false; PACKET_TABLE_LEN];
-    let mut p = no_pairs();
-    let mut i: u32 = 0;
-    while i < layout.arrivals {
+    let mut p = Pairs::default();
+    for i in 0..layout.arrivals {
         let number = sample::arrival(file, layout, i).number;
         let at = number as usize;
         let arrived = seen[at];
         p = pairs_after(counts, arrived, number, p);
         seen[at] = true;
-        i += 1;
     }
     p.wrong
 }

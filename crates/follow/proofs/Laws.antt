@@ -1,52 +1,26 @@
--- Laws of the text of a line and of the call's answer. A late time has a minus only if it is before by more than 0 (`after-amount`,
--- `before-none`, `before-some`). The octets written for a refusal are its words, or none (`words-read`). A line is refused or not
--- (`arrival-none`, `arrival-some`, `followed-refused`, `followed-step`), and so is its arrival (`outcome-refused`, `outcome-noted`). The
--- caller's buffer has room for the text or not (`line-short`, `line-written`). r is a receiver, l a line, read the arrival read from it, s
--- the step, n the length of the text in `new`, out and out' the caller's buffer before and after the call. Assumes nothing.
+-- Laws of the text of a line. The octets written for a refusal are its words, or none (`words-read`). The caller's buffer has room for the
+-- text or not (`line-short`, `line-written`). r is a receiver, l a line, read the arrival read from it, s the step, out and out' the
+-- caller's buffer before and after the call. Assumes nothing.
 use Prim.Native.Nat.{ℕ, ◌+◌, ◌≤◌, ◌<◌}
 use native.Mathlib.Omega.{arith}
 use mathlib.Core.Path.{◌≡◌, refl, sym, ap, subst, ◌∙◌}
 use mathlib.Core.Bool.{Bool, true, false, true≢false, not, ◌&&◌}
-use mathlib.Core.List.{List, [], ◌∷◌, ◌++◌}
-use borrow.Author.Tests.{eq-eqb, ne_eqb, lt-ltb, le-ltb, leb-false, ltb-true, ltb-false}
+use mathlib.Core.List.{List, [], ◌∷◌}
+use borrow.Author.Tests.{lt-ltb, le-ltb, leb-false, ltb-true, ltb-false}
 use lib.Dec.{leb, ltb}
 use lib.ListN.{length, get_or, take, get_or-eq_default}
-use Rattle.octets.specs.Text.{ascii}
 use Rattle.octets.specs.Memory.{over}
 use Rattle.octets.proofs.Memory.{over_first, put-none, put-over}
-use Rattle.decimal.specs.Decimal.{decimal_of}
-use Rattle.rfc4737.specs.declared.LateTime.TheVariants.{After, Before}
 use Rattle.rfc4737.specs.Refusals.{outside, refusal_if, first_refusal, asked_outside, output_short}
-use Rattle.listing.specs.Lines.{late_time}
 use Rattle.sample.specs.declared.WriteAnswer.{WriteAnswer}
 use Rattle.sample.specs.Output.{if_none, Output}
 use Rattle.sample.proofs.Output.{refusal-short, none-refused, output-whole}
 use Rattle.refusals.specs.Words.{all_words, words_of, asked_refusal, WordsFit}
-use Rattle.receiver.specs.declared.Outcome.{Outcome}
 use Rattle.receiver.specs.declared.Receiver.{Receiver}
 use Rattle.receiver.specs.declared.StepAnswer.{StepAnswer}
-use Rattle.receiver.specs.Outcomes.{refused_outcome}
-use Rattle.receiver.specs.Step.{step_of}
 use Rattle.textlog.specs.declared.LogLine.{LogLine}
-use Rattle.writing.specs.Numbers.{between}
-use Rattle.writing.specs.Parts.{Written, joined}
-use Rattle.writing.proofs.Parts.{stands}
-use Rattle.follow.specs.Text.{arrival_text, noted_text, refusal_text, outcome_text, line_text, line_octets}
+use Rattle.follow.specs.Text.{line_text, line_octets}
 use Rattle.follow.specs.Follow.{followed, followed_text, follow_answer, FollowedTo}
-
--- ---- late times
-
-pub after-amount : (t : ℕ) → decimal_of t ≡ late_time (After t)
-unfolding late_time
-after-amount t = refl
-
-pub before-none : (t : ℕ) → t ≡ 0 → decimal_of t ≡ late_time (Before t)
-unfolding late_time
-before-none t z = rw (le-ltb 0 t (omega (arith, z))) refl
-
-pub before-some : (t : ℕ) → (t ≡ 0 → ⊥) → ascii "-" ++ decimal_of t ≡ late_time (Before t)
-unfolding late_time
-before-some t h = rw (lt-ltb 0 t (omega (arith, h))) refl
 
 -- ---- the words of a refusal
 
@@ -96,40 +70,7 @@ words-read n {old} {new} {answer} w fit room = go (outside 1 18 n) refl
         let none : answer.length ≡ 0 = words-refused n old new answer own w in
         (omega (arith, none), (omega (arith, none), rw (none, words-none n e) refl))
 
--- ---- a line, and its arrival
-
-pub arrival-none : (l : LogLine) → (l.refusal ≡ 0 → ⊥) → [] ≡ arrival_text l
-unfolding arrival_text
-arrival-none l h = rw (ne_eqb l.refusal 0 h) refl
-
-pub arrival-some : (l : LogLine) → l.refusal ≡ 0
-    → joined (between [] l.number (ascii " at ") ∷ between [] l.time (ascii " us: ") ∷ []) ≡ arrival_text l
-unfolding arrival_text
-arrival-some l e = rw (eq-eqb l.refusal 0 e) refl
-
-pub outcome-refused : (o : Outcome) → (o.refusal ≡ 0 → ⊥) → refusal_text o.refusal ≡ outcome_text o
-unfolding outcome_text
-outcome-refused o h = rw (ne_eqb o.refusal 0 h) refl
-
-pub outcome-noted : (o : Outcome) → o.refusal ≡ 0 → noted_text o.noted ≡ outcome_text o
-unfolding outcome_text
-outcome-noted o e = rw (eq-eqb o.refusal 0 e) refl
-
-pub followed-refused : (r : Receiver) (l : LogLine) → (l.refusal ≡ 0 → ⊥)
-    → record { outcome = refused_outcome l.refusal; state = r } ≡ followed r l
-unfolding followed
-followed-refused r l h = rw (ne_eqb l.refusal 0 h) refl
-
-pub followed-step : (r : Receiver) (l : LogLine) → l.refusal ≡ 0 → step_of r l.number l.time ≡ followed r l
-unfolding followed
-followed-step r l e = rw (eq-eqb l.refusal 0 e) refl
-
 -- ---- the calls
-
--- a text that is written at the start of memory is what the call writes that is lent its octets
-pub text-put : {n : ℕ} {xs old new : List ℕ} (w : Written 0 n xs old new) {out out' : List ℕ} {answer : WriteAnswer}
-    → Output 0 (take n new) out answer out' → Output 0 xs out answer out'
-text-put w {out} {out'} {answer} o = subst (λ (l : List ℕ). Output 0 l out answer out') (stands w).1 o
 
 module _ (r : Receiver) {l read : LogLine} {s : StepAnswer} {out out' : List ℕ} {answer : WriteAnswer} (e : read ≡ l)
     (f : s ≡ followed r read) (w : Output 0 (line_text read s.outcome) out answer out') where

@@ -8,19 +8,20 @@ ghost use Rattle.sample.specs.Output.{Output};
 ghost use Rattle.follow.specs.Text.{line_text, line_octets, counts_text};
 ghost use Rattle.follow.specs.Follow.{followed, followed_text, FollowedTo};
 
-mod parts;
 mod text;
 
 use receiver::{Outcome, Receiver, ReceiverAnswer, StepAnswer, Stream};
-use rfc4737::refusal::OUTPUT_SHORT;
+use rfc4737::refusal::NONE;
 use sample::WriteAnswer;
-use text::{write_counts, write_line};
+use text::{text_of_counts, text_of_line};
 use textlog::{LogLine, read_line};
+use writing::hand_over;
 
 // Room for the text of any line, and for the counts, in octets.
 pub const LINE_OCTETS: usize = 256;
 
-// The answer for a line: its refusal (0 for none), the length of its text, and the receiver after it.
+// The answer for a line: its refusal (0 for none), the length of its text, and the receiver after it. The refusal stays a number beside the
+// text's length: a line that is refused has a text too, and `follow_answer` has it so.
 #[derive(Clone, Copy)]
 pub struct FollowAnswer {
     pub refusal: u32,
@@ -29,6 +30,7 @@ pub struct FollowAnswer {
 }
 
 // Steps the receiver by the arrival of a line. A refused line leaves it unchanged.
+#[tactic(auto, unfolding(crate::specs::Follow::followed))]
 fn step_line(state: Receiver, read: LogLine) -> StepAnswer
     ensures { result ≡ followed state read }
 {
@@ -42,34 +44,13 @@ fn step_line(state: Receiver, read: LogLine) -> StepAnswer
     state.step(read.number, read.time)
 }
 
-// Writes a text to the start of `out`. If `out` is too short, the refusal is 8, and `out` stays unchanged.
-fn write_text(text: &[u8], out: &mut [u8]) -> WriteAnswer
-    requires { length text.now ≤ line_octets }
-    ensures { Output 0 text.now out.old result out.new }
-{
-    let length = text.len();
-    if out.len() < length {
-        return WriteAnswer {
-            refusal: OUTPUT_SHORT,
-            length: 0,
-        };
-    }
-    octets::put_octets(out, 0, text);
-    WriteAnswer {
-        refusal: 0,
-        length: length as u32,
-    }
-}
-
 // Writes the text of a line to the start of `out`; LINE_OCTETS octets have room for any. `read` is the line as `textlog::read_line` reads
 // it, and `outcome` the outcome of the receiver's step by it. If `out` is too short, the refusal is 8, and `out` stays unchanged.
 pub fn line_text(read: LogLine, outcome: Outcome, out: &mut [u8]) -> WriteAnswer
     ensures output { Output 0 (line_text read outcome) out.old result out.new }
     ensures room { length (line_text read outcome) ≤ line_octets }
 {
-    let mut text = [0u8; LINE_OCTETS];
-    let n = write_line(&mut text, read, outcome);
-    write_text(&text[..n], out)
+    hand_over(NONE, text_of_line(read, outcome).octets(), out)
 }
 
 // Reads one line, steps the receiver by its arrival, and writes the outcome to the start of `out`; LINE_OCTETS octets have room for any. A
@@ -104,7 +85,5 @@ pub fn counts(stream: Stream, out: &mut [u8]) -> WriteAnswer
     ensures output { Output 0 (counts_text stream) out.old result out.new }
     ensures room { length (counts_text stream) ≤ line_octets }
 {
-    let mut text = [0u8; LINE_OCTETS];
-    let n = write_counts(&mut text, stream);
-    write_text(&text[..n], out)
+    hand_over(NONE, text_of_counts(stream).octets(), out)
 }

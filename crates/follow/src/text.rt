@@ -1,141 +1,167 @@
-// Writes the text of a line to a buffer that has room for it. Each function returns the offset after what it wrote.
-ghost use Rattle.std.specs.Prelude.{◌≡◌, ◌+◌, ◌-◌, ◌≤◌, length};
-ghost use Rattle.writing.specs.Parts.{Written};
+// Writes the text of a line and of the counts.
+ghost use Rattle.std.specs.Prelude.{◌≡◌, ◌+◌, ◌≤◌, ◌++◌, [], length};
+ghost use Rattle.refusals.specs.Words.{words_of};
 ghost use Rattle.follow.specs.Text.{arrival_text, extent_text, exact_text, beyond_text, noted_text, refusal_text, outcome_text, line_text};
 ghost use Rattle.follow.specs.Text.{accepted_text, runs_text, counts_text};
 
-use crate::parts::{write_between, write_late, write_word, write_words};
+use crate::LINE_OCTETS;
 use receiver::{Lateness, Outcome, ReceiverAnswer, Stream};
+use rfc4737::Runs;
 use textlog::LogLine;
+use writing::Text;
+
+// A text that has room for any line.
+pub(crate) type Line = Text<LINE_OCTETS>;
 
 // Writes the arrival of a line that is not refused.
-fn write_arrival(out: &mut [u8], at: usize, read: LogLine) -> usize
-    requires { at + 80 ≤ length out.old }
-    ensures { Written at result (arrival_text read) out.old out.new × (result ≤ at + 60) }
+#[tactic(auto, unfolding(crate::specs::Text::arrival_text))]
+fn write_arrival(out: &mut Line, read: LogLine)
+    requires { length out.old + 60 ≤ 256 }
+    ensures written { out.new ≡ out.old ++ arrival_text read }
+    ensures room { length out.new ≤ length out.old + 60 }
 {
-    if read.refusal != 0 {
-        return at;
+    if read.refusal == 0 {
+        out.between(b"", read.number as u64, b" at ");
+        out.between(b"", read.time, b" us: ");
     }
-    let one = write_between(out, at, b"", read.number as u64, b" at ");
-    write_between(out, one, b"", read.time, b" us: ")
 }
 
 // Writes an extent after `words`.
-fn write_extent(out: &mut [u8], at: usize, words: &[u8], extent: u32) -> usize
-    requires { at + (length words.now + 30) ≤ length out.old }
-    ensures { Written at result (extent_text words.now extent) out.old out.new
-        × (result ≤ at + (length words.now + 30)) }
+#[tactic(auto, unfolding(crate::specs::Text::extent_text))]
+fn write_extent(out: &mut Line, words: &[u8], extent: u32)
+    requires { length out.old + (length words.now + 30) ≤ 256 }
+    ensures written { out.new ≡ out.old ++ extent_text words.now extent }
+    ensures room { length out.new ≤ length out.old + (length words.now + 30) }
 {
     if extent == 1 {
-        return write_between(out, at, words, extent as u64, b" packet, ");
+        out.between(words, extent as u64, b" packet, ");
+    } else {
+        out.between(words, extent as u64, b" packets, ");
     }
-    write_between(out, at, words, extent as u64, b" packets, ")
 }
 
 // Writes a reordered packet with exact extent and late time.
-fn write_exact(out: &mut [u8], at: usize, l: Lateness) -> usize
-    requires { at + 100 ≤ length out.old }
-    ensures { Written at result (exact_text l) out.old out.new × (result ≤ at + 100) }
+#[tactic(auto, unfolding(crate::specs::Text::exact_text))]
+fn write_exact(out: &mut Line, l: Lateness)
+    requires { length out.old + 100 ≤ 256 }
+    ensures written { out.new ≡ out.old ++ exact_text l }
+    ensures room { length out.new ≤ length out.old + 100 }
 {
     let late = l.late;
-    let one = write_extent(out, at, b"late by ", l.extent);
-    let two = write_late(out, one, late);
-    write_word(out, two, b" us\n")
+    write_extent(out, b"late by ", l.extent);
+    out.late_time(late);
+    out.word(b" us\n");
 }
 
 // Writes a reordered packet beyond the window.
-fn write_beyond(out: &mut [u8], at: usize, l: Lateness) -> usize
-    requires { at + 100 ≤ length out.old }
-    ensures { Written at result (beyond_text l) out.old out.new × (result ≤ at + 100) }
+#[tactic(auto, unfolding(crate::specs::Text::beyond_text))]
+fn write_beyond(out: &mut Line, l: Lateness)
+    requires { length out.old + 100 ≤ 256 }
+    ensures written { out.new ≡ out.old ++ beyond_text l }
+    ensures room { length out.new ≤ length out.old + 100 }
 {
-    let one = write_extent(out, at, b"late by more than ", l.extent);
-    write_word(out, one, b"beyond the window\n")
+    write_extent(out, b"late by more than ", l.extent);
+    out.word(b"beyond the window\n");
 }
 
 // Writes what is noted of an arrival.
-fn write_noted(out: &mut [u8], at: usize, noted: ReceiverAnswer) -> usize
-    requires { at + 100 ≤ length out.old }
-    ensures { Written at result (noted_text noted) out.old out.new × (result ≤ at + 100) }
+#[tactic(auto, unfolding(crate::specs::Text::noted_text, crate::specs::Text::in_order_text))]
+fn write_noted(out: &mut Line, noted: ReceiverAnswer)
+    requires { length out.old + 100 ≤ 256 }
+    ensures written { out.new ≡ out.old ++ noted_text noted }
+    ensures room { length out.new ≤ length out.old + 100 }
 {
     match noted {
-        ReceiverAnswer::Duplicate => write_word(out, at, b"copy\n"),
-        ReceiverAnswer::InOrder(jump) => {
-            write_between(out, at, b"in order, jump ", jump as u64, b"\n")
-        }
-        ReceiverAnswer::Exact(l) => write_exact(out, at, l),
-        ReceiverAnswer::Beyond(l) => write_beyond(out, at, l),
+        ReceiverAnswer::Duplicate => out.word(b"copy\n"),
+        ReceiverAnswer::InOrder(jump) => out.between(b"in order, jump ", jump as u64, b"\n"),
+        ReceiverAnswer::Exact(l) => write_exact(out, l),
+        ReceiverAnswer::Beyond(l) => write_beyond(out, l),
     }
+}
+
+// Writes the words of a refusal.
+fn write_words(out: &mut Line, refusal: u32)
+    requires { length out.old + 128 ≤ 256 }
+    ensures written { out.new ≡ out.old ++ words_of refusal }
+    ensures room { length out.new ≤ length out.old + 128 }
+{
+    let mut words = [0u8; refusals::OCTETS];
+    let n = refusals::words(refusal, &mut words).length as usize;
+    out.word(&words[..n]);
 }
 
 // Writes a refusal, in words.
-fn write_refusal(out: &mut [u8], at: usize, refusal: u32) -> usize
-    requires { at + 180 ≤ length out.old }
-    ensures { Written at result (refusal_text refusal) out.old out.new × (result ≤ at + 180) }
+#[tactic(auto, unfolding(crate::specs::Text::refusal_text))]
+fn write_refusal(out: &mut Line, refusal: u32)
+    requires { length out.old + 180 ≤ 256 }
+    ensures written { out.new ≡ out.old ++ refusal_text refusal }
+    ensures room { length out.new ≤ length out.old + 180 }
 {
-    let one = write_between(out, at, b"refused ", refusal as u64, b": ");
-    let two = write_words(out, one, refusal);
-    write_word(out, two, b"\n")
+    out.between(b"refused ", refusal as u64, b": ");
+    write_words(out, refusal);
+    out.word(b"\n");
 }
 
 // Writes the outcome of a step.
-fn write_outcome(out: &mut [u8], at: usize, outcome: Outcome) -> usize
-    requires { at + 180 ≤ length out.old }
-    ensures { Written at result (outcome_text outcome) out.old out.new × (result ≤ at + 180) }
+#[tactic(auto, unfolding(crate::specs::Text::outcome_text))]
+fn write_outcome(out: &mut Line, outcome: Outcome)
+    requires { length out.old + 180 ≤ 256 }
+    ensures written { out.new ≡ out.old ++ outcome_text outcome }
+    ensures room { length out.new ≤ length out.old + 180 }
 {
     let noted = outcome.noted;
-    if outcome.refusal != 0 {
-        return write_refusal(out, at, outcome.refusal);
+    if outcome.refusal == 0 {
+        write_noted(out, noted);
+    } else {
+        write_refusal(out, outcome.refusal);
     }
-    write_noted(out, at, noted)
 }
 
-// Writes the text of a line to the start of `out`.
-pub(crate) fn write_line(out: &mut [u8], read: LogLine, outcome: Outcome) -> usize
-    requires { 256 ≤ length out.old }
-    ensures { Written 0 result (line_text read outcome) out.old out.new × (result ≤ 256) }
+// Returns the text of a line.
+#[tactic(auto, unfolding(crate::specs::Text::line_text))]
+pub(crate) fn text_of_line(read: LogLine, outcome: Outcome) -> Line
+    ensures { result ≡ line_text read outcome }
 {
-    let one = write_arrival(out, 0, read);
-    write_outcome(out, one, outcome)
-}
-
-// Returns the number of reordered packets among `arrived` first arrivals, of which `inorder` are in order.
-fn reordered(arrived: u32, inorder: u32) -> u64
-    ensures { result ≡ arrived - inorder }
-{
-    if arrived < inorder {
-        return 0;
-    }
-    (arrived - inorder) as u64
+    let mut out = Line::new();
+    write_arrival(&mut out, read);
+    write_outcome(&mut out, outcome);
+    out
 }
 
 // Writes the counts of the arrivals.
-fn write_accepted(out: &mut [u8], at: usize, arrived: u32, inorder: u32, copies: u32) -> usize
-    requires { at + 160 ≤ length out.old }
-    ensures { Written at result (accepted_text arrived inorder copies) out.old out.new × (result ≤ at + 135) }
+#[tactic(auto, unfolding(crate::specs::Text::accepted_text))]
+fn write_accepted(out: &mut Line, stream: Stream)
+    requires { length out.old + 135 ≤ 256 }
+    ensures written { out.new ≡ out.old ++ accepted_text stream.arrived stream.inorder stream.duplicates }
+    ensures room { length out.new ≤ length out.old + 135 }
 {
-    let accepted = arrived as u64 + copies as u64;
-    let late = reordered(arrived, inorder);
-    let one = write_between(out, at, b"accepted ", accepted, b", in order ");
-    let two = write_between(out, one, b"", inorder as u64, b", reordered ");
-    let three = write_between(out, two, b"", late, b", copies ");
-    write_between(out, three, b"", copies as u64, b", closed runs ")
+    let accepted = stream.arrived as u64 + stream.duplicates as u64;
+    let late = stream.arrived.saturating_sub(stream.inorder);
+    out.between(b"accepted ", accepted, b", in order ");
+    out.between(b"", stream.inorder as u64, b", reordered ");
+    out.between(b"", late as u64, b", copies ");
+    out.between(b"", stream.duplicates as u64, b", closed runs ");
 }
 
 // Writes the counts of the runs.
-fn write_runs(out: &mut [u8], at: usize, closed: u32, current: u32) -> usize
-    requires { at + 120 ≤ length out.old }
-    ensures { Written at result (runs_text closed current) out.old out.new × (result ≤ at + 120) }
+#[tactic(auto, unfolding(crate::specs::Text::runs_text))]
+fn write_runs(out: &mut Line, runs: Runs)
+    requires { length out.old + 120 ≤ 256 }
+    ensures written { out.new ≡ out.old ++ runs_text runs.closed runs.current }
+    ensures room { length out.new ≤ length out.old + 120 }
 {
-    let one = write_between(out, at, b"", closed as u64, b", open run ");
-    write_between(out, one, b"", current as u64, b"\n")
+    out.between(b"", runs.closed as u64, b", open run ");
+    out.between(b"", runs.current as u64, b"\n");
 }
 
-// Writes the counts of a stream to the start of `out`.
-pub(crate) fn write_counts(out: &mut [u8], stream: Stream) -> usize
-    requires { 256 ≤ length out.old }
-    ensures { Written 0 result (counts_text stream) out.old out.new × (result ≤ 256) }
+// Returns the text of the counts of a stream.
+#[tactic(auto, unfolding(crate::specs::Text::counts_text))]
+pub(crate) fn text_of_counts(stream: Stream) -> Line
+    ensures { result ≡ counts_text stream }
 {
     let runs = stream.runs;
-    let one = write_accepted(out, 0, stream.arrived, stream.inorder, stream.duplicates);
-    write_runs(out, one, runs.closed, runs.current)
+    let mut out = Line::new();
+    write_accepted(&mut out, stream);
+    write_runs(&mut out, runs);
+    out
 }

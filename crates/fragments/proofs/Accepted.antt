@@ -1,19 +1,17 @@
 -- What holds for K and the lists if nothing is refused: `order_refusal ≡ 0` settles each test of the judge in turn, last the room in both
 -- of the caller's lists (`accepted`). The arrivals have the numbers of the list of numbers, so what the judge says of the arrivals holds
--- for the list. If the call is refused, the caller's lists stay unchanged. ns, ts, ls, ms and os are the five lists, f and u the lists
--- for flags and for usable values, r is a refusal. Assumes nothing.
-use Prim.Native.Nat.{ℕ, zero, suc, ◌≤◌, ◌<◌}
+-- for the list. ns, ts, ls, ms and os are the five lists, f and u the lists
+-- for flags and for usable values. Assumes nothing.
+use Prim.Native.Nat.{ℕ, ◌≤◌, ◌<◌}
 use native.Mathlib.Omega.{arith}
 use mathlib.Core.Bool.{Bool, true, not, ◌&&◌, ◌||◌}
-use mathlib.Core.Path.{◌≡◌, refl, sym}
+use mathlib.Core.Path.{◌≡◌, sym}
 use mathlib.Core.List.{List, [], ◌∷◌}
 use borrow.Author.Tests.{eqb-true, not-false, ltb-false}
 use lib.Dec.{ltb, eqb}
 use lib.ListN.{length}
-use Rattle.octets.specs.Memory.{over}
 use Rattle.rfc4737.specs.Refusals.{refusal_if, sent_outside, many_arrivals, lists_differ, output_short}
 use Rattle.rfc4737.specs.Judge.{judge_sent, judge_arrivals, sent_most, arrivals_most}
-use Rattle.sample.specs.Output.{if_none}
 use Rattle.rfc4737.proofs.Due.{each_none, case-none, limit-none}
 use Rattle.rfc4737.proofs.Tests.{neither}
 use Rattle.fragments.specs.Pieces.{pieces_of}
@@ -70,8 +68,3 @@ accepted k ns ts ls ms os f u e =
       flag_room = ltb-false f (length ns) rooms.0;
       used_room = ltb-false u (length ns) rooms.1;
     }
-
--- with a refusal the caller's lists stay
-pub refused_over : (r : ℕ) (xs old : List ℕ) → (r ≡ 0 → ⊥) → old ≡ if_none r (over xs old) old
-refused_over zero xs old n = absurd (n refl)
-refused_over (suc r) xs old n = refl

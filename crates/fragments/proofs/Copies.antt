@@ -55,14 +55,12 @@ copy-split a l =
     ∙ ap (λ (t : Bool). any (same_key a) l || t) (any-and (is_whole a) (whole_of a.number) l)
 
 -- what the function finds of the mark and of what was seen
-pub copy-here : (a : Piece) (l : List Piece) (r : Bool) (mark seen : ℕ) → r ≡ (not (eqb mark 0) || (is_whole a && not (eqb seen 0)))
-    → mark ≡ cond (any (same_key a) l) 1 0 → seen ≡ cond (any (whole_of a.number) l) 1 0 → r ≡ is_copy l a
+pub copy-here : (a : Piece) (l : List Piece) (r : Bool) (mark : ℕ) (seen : Bool) → r ≡ (not (eqb mark 0) || (is_whole a && seen))
+    → mark ≡ cond (any (same_key a) l) 1 0 → seen ≡ any (whole_of a.number) l → r ≡ is_copy l a
 copy-here a l r mark seen e f g =
-    e ∙ ap₂ (λ (x y : ℕ). not (eqb x 0) || (is_whole a && not (eqb y 0))) f g ∙ go (any (same_key a) l) (any (whole_of a.number) l)
+    e ∙ ap₂ (λ (x : ℕ) (y : Bool). not (eqb x 0) || (is_whole a && y)) f g ∙ go (any (same_key a) l) (any (whole_of a.number) l)
     ∙ sym (copy-split a l)
   where
-    go : (s w : Bool) → (not (eqb (cond s 1 0) 0) || (is_whole a && not (eqb (cond w 1 0) 0))) ≡ (s || (is_whole a && w))
-    go true true = refl
-    go true false = refl
-    go false true = refl
-    go false false = refl
+    go : (s w : Bool) → (not (eqb (cond s 1 0) 0) || (is_whole a && w)) ≡ (s || (is_whole a && w))
+    go true w = refl
+    go false w = refl

@@ -5,12 +5,12 @@
 -- packet (`pass-done`). The search for a last fragment that ends at r or before goes through them from the end (`Unended`). A whole
 -- packet among them settles it (`whole-found`). l are the arrivals, s is the packet, o an octet, r the reach, d an earlier arrival, j and
 -- m are indices in the run. Assumes nothing.
-use Prim.Native.Nat.{ℕ, ◌+◌, ◌-◌, ◌≤◌, ◌<◌}
+use Prim.Native.Nat.{ℕ, ◌+◌, ◌≤◌, ◌<◌}
 use native.Mathlib.Omega.{arith}
 use mathlib.Core.Bool.{Bool, true, false, cond, ◌&&◌, true≢false}
 use mathlib.Core.Path.{◌≡◌, refl, sym, ap, ◌∙◌, subst}
 use mathlib.Core.List.{List}
-use borrow.Author.Tests.{lt-ltb, ltb-true, ltb-false, le-leb, leb-true, eqb-true, eqb-false, eq-eqb}
+use borrow.Author.Tests.{lt-ltb, ltb-true, ltb-false, le-leb, leb-true, eqb-true, eq-eqb}
 use lib.Dec.{leb, ltb, eqb}
 use lib.ListN.{length, get_or}
 use Rattle.fragments.specs.declared.Piece.{Piece}
@@ -74,9 +74,6 @@ module _ (l : List Piece) (s : ℕ) (run : List ℕ) where
             subst (λ (j : ℕ). p (get_or l j no_piece) ≡ false) f.1.1 (h f.0 f.1.0)
         go i g false e = only (get_or l i no_piece) (λ q. true≢false (sym (eq-eqb (get_or l i no_piece).number s q) ∙ e))
 
-    pub pass-start : OnePass 0 0
-    pass-start = record { covered = λ o h. absurd (omega arith); passed = λ m h. absurd (omega arith) }
-
     pass-more : (r j : ℕ) → j < length run → OnePass r j → OnePass (cond (has_octet s r (piece_in j)) (piece_end (piece_in j)) r) (j + 1)
     pass-more r j h p = go (has_octet s r (piece_in j)) refl
       where
@@ -126,18 +123,6 @@ module _ (l : List Piece) (s : ℕ) (run : List ℕ) where
         record { covered = p.covered; uncovered = none_passes (has_octet s r) (λ a n. octet-of s r a n) (λ m g. p.passed m (omega arith)) }
 
     -- ---- the search for the end
-
-    pub unended-start : (r : ℕ) → Unended r (length run)
-    unended-start r = record { passed = λ k h g. absurd (omega arith) }
-
-    pub unended-next : (r m : ℕ) (a : Piece) → 0 < m → a ≡ piece_in (m - 1) → (is_last a && leb (piece_end a) r) ≡ false → Unended r m
-        → Unended r (m - 1)
-    unended-next r m a h e q u = record { passed = λ k g n. go k g n (eqb k (m - 1)) refl }
-      where
-        go : (k : ℕ) → m - 1 ≤ k → k < length run → (t : Bool) → eqb k (m - 1) ≡ t
-            → (is_last (piece_in k) && leb (piece_end (piece_in k)) r) ≡ false
-        go k g n true z = rw (eqb-true k (m - 1) z, ← e) q
-        go k g n false z = u.passed k (omega (arith, eqb-false k (m - 1) z)) n
 
     -- one that ends by the reach makes the packet complete
     pub ends_found : (r m : ℕ) (a : Piece) → m < length run → a ≡ piece_in m → (is_last a && leb (piece_end a) r) ≡ true → Reach l s r

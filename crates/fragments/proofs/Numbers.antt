@@ -15,18 +15,18 @@ use Rattle.fragments.specs.Pieces.{pieces_of}
 use Rattle.fragments.specs.Private.{no_piece, NumbersWithin}
 use Rattle.fragments.proofs.Laws.{pieces-length, pieces-get_or}
 
--- an element after a store
+-- an element after a store; z is what is read past the end
+pub stored_in : {A : Type 0} (z : A) (d : List A) (p q : ℕ) (v : A) → p < length d → (P : A → Type 0) → (q ≡ p → P v)
+    → ((q ≡ p → ⊥) → P (get_or d q z)) → P (get_or (set d p v) q z)
+stored_in {A} z d p q v h P f g = go (eqb q p) refl
+  where
+    go : (t : Bool) → eqb q p ≡ t → P (get_or (set d p v) q z)
+    go true e = let k : q ≡ p = eqb-true q p e in rw (k, get_or-set_same d p v z h) (f k)
+    go false e = rw (get_or-set_other d p q v z (eqb-false q p e)) (g (eqb-false q p e))
+
 pub stored : (d : List ℕ) (p q v : ℕ) → p < length d → (P : ℕ → Type 0) → (q ≡ p → P v) → ((q ≡ p → ⊥) → P (get_or d q 0))
     → P (get_or (set d p v) q 0)
-stored d p q v h P f g = go (eqb q p) refl
-  where
-    go : (t : Bool) → eqb q p ≡ t → P (get_or (set d p v) q 0)
-    go true e = let k : q ≡ p = eqb-true q p e in rw (k, get_or-set_same d p v 0 h) (f k)
-    go false e = rw (get_or-set_other d p q v 0 (eqb-false q p e)) (g (eqb-false q p e))
-
--- numbers within k are within m, where k is at most m
-pub within_more : (k m : ℕ) (numbers : List ℕ) → k ≤ m → NumbersWithin k numbers → NumbersWithin m numbers
-within_more k m numbers h n = record { at = λ (j : ℕ) (g : j < length numbers). ((n.at j g).0, omega (arith, (n.at j g).1)) }
+stored d p q v h P f g = stored_in 0 d p q v h P f g
 
 -- ---- the arrivals of the lists
 

@@ -10,13 +10,17 @@ use native.Mathlib.Omega.{arith}
 use mathlib.Core.Bool.{Bool, true, false, ◌&&◌, ◌||◌, true≢false}
 use mathlib.Core.List.{List, [], ◌∷◌, ◌++◌}
 use mathlib.Core.Path.{◌≡◌, refl, sym, ap, ap₂, subst, ◌∙◌}
-use lib.Dec.{eqb}
+use lib.Dec.{ltb, eqb}
 use lib.ListN.{length, get_or, take, drop}
 use lib.Seq.{length-take-le, split_at, get_or-take}
-use borrow.Author.Tests.{eq-eqb, ne_eqb, eqb-true, eqb-false}
+use borrow.Author.Tests.{ltb-true, ltb-false, eq-eqb, ne_eqb, eqb-true, eqb-false}
 use Rattle.octets.proofs.Memory.{take_snoc}
-use Rattle.merging.specs.Order.{kept_if, passing, at_key, InOrder}
+use Rattle.std.specs.List.{All}
+use Rattle.std.proofs.lemmas.List.{get_or_past}
+use Rattle.std.proofs.lemmas.List.Elements.{All-cons, All-tail}
+use Rattle.merging.specs.Order.{kept_if, passing, NotBelow, Rising, at_key, InOrder}
 use Rattle.merging.proofs.Ordered.{at-append, rising-at}
+use Rattle.merging.proofs.Permuted.{rising-passing}
 use Rattle.fragments.specs.declared.Piece.{Piece}
 use Rattle.fragments.specs.Pieces.{pieces_of, any, piece_start}
 use Rattle.fragments.specs.Private.{no_piece}
@@ -192,9 +196,50 @@ key-eqb o l o' l' b d = go (eqb o o') refl (eqb l l') refl
         ne_eqb (o * 65536 + l) (o' * 65536 + l') (λ e. eqb-false l l' r (let z : l ≡ l' = omega (arith, e, eqb-true o o' q) in z))
     go false q z r = ne_eqb (o * 65536 + l) (o' * 65536 + l') (λ e. eqb-false o o' q (let z : o ≡ o' = omega (arith, e) in z))
 
+-- ---- a packet's places
+
+below-upto : (t a k : ℕ) → t ≤ a → NotBelow (λ (x : ℕ). x) t (from a k)
+unfolding from
+below-upto t a zero h = tt
+below-upto t a (suc k) h = (h, below-upto t (suc a) k (omega arith))
+
+rising-upto : (a k : ℕ) → Rising (λ (x : ℕ). x) (from a k)
+unfolding from
+rising-upto a zero = tt
+rising-upto a (suc k) = (below-upto a (suc a) k (omega arith), rising-upto (suc a) k)
+
+-- they rise
+pub places-rise : (ns : List ℕ) (s : ℕ) → Rising (λ (x : ℕ). x) (places_of ns s)
+places-rise ns s = rising-passing (λ (x : ℕ). x) (λ (x : ℕ). eqb (get_or ns x 0) s) (upto (length ns)) (rising-upto 0 (length ns))
+
+short-upto : (a k : ℕ) → a + k ≤ 65536 → All (λ (x : ℕ). x < 65536) (from a k)
+unfolding from
+short-upto a zero h = λ i d g. absurd (omega arith)
+short-upto a (suc k) h = All-cons (λ (x : ℕ). x < 65536) a (from (suc a) k) (omega arith) (short-upto (suc a) k (omega arith))
+
+short-passing : (q : ℕ → Bool) (l : List ℕ) → All (λ (x : ℕ). x < 65536) l → All (λ (x : ℕ). x < 65536) (passing q l)
+unfolding passing
+short-passing q [] h = h
+short-passing q (x ∷ l) h = go (short-passing q l (All-tail (λ (x : ℕ). x < 65536) x l h)) (q x)
+  where
+    go : All (λ (x : ℕ). x < 65536) (passing q l) → (d : Bool) → All (λ (x : ℕ). x < 65536) (kept_if d x (passing q l))
+    go m true = All-cons (λ (x : ℕ). x < 65536) x (passing q l) (h 0 0 (omega arith)) m
+    go m false = m
+
+-- each is below 65,536
+pub places-short : (ns : List ℕ) (s : ℕ) → length ns ≤ 65536 → All (λ (x : ℕ). x < 65536) (places_of ns s)
+places-short ns s h = short-passing (λ (x : ℕ). eqb (get_or ns x 0) s) (upto (length ns)) (short-upto 0 (length ns) (omega arith))
+
 -- every element is below 65,536
 pub record Short (l : List ℕ) : Type 0 where
   pub at : (i : ℕ) → get_or l i 0 < 65536
+
+pub short-all : (l : List ℕ) → All (λ (x : ℕ). x < 65536) l → Short l
+short-all l h = record { at = λ i. go i (ltb i (length l)) refl }
+  where
+    go : (i : ℕ) → (t : Bool) → ltb i (length l) ≡ t → get_or l i 0 < 65536
+    go i true e = h i 0 (ltb-true i (length l) e)
+    go i false e = omega (arith, get_or_past l i 0 (ltb-false i (length l) e))
 
 module _ (ns ts ls ms fs : List ℕ) (short : Short ls) where
   abbrev number : ℕ → ℕ

@@ -8,3 +8,4 @@ pub mod Whole
 pub mod Cases
 pub mod Private
 pub mod Places
+pub mod Arrivals

@@ -1,137 +1,104 @@
 // Refusals of K, of the lists, and of the arrivals in turn.
-ghost use Rattle.std.specs.Prelude.{◌≡◌};
-ghost use Rattle.fragments.specs.Pieces.{pieces_in};
+ghost use Rattle.std.specs.Prelude.{◌≡◌, IfOk};
+ghost use Rattle.rfc4737.specs.Refused.{refusal_in};
+ghost use Rattle.fragments.specs.Pieces.{pieces_of};
 ghost use Rattle.fragments.specs.Judge.{is_unfit, judge_piece, judge_pieces};
-ghost use Rattle.fragments.specs.Private.{Lists};
+ghost use Rattle.fragments.specs.Arrivals.{pieces};
 ghost use Rattle.fragments.specs.Calls.{same_lengths, order_refusal};
 
 use crate::Piece;
-use crate::arrival::{is_whole, piece_at, piece_end};
+use crate::arrivals::Arrivals;
 use rfc4737::judge::{ARRIVALS_MOST, SENT_MOST, outside};
-use rfc4737::refusal::{
-    FRAGMENT_UNFIT, LISTS_DIFFER, MANY_ARRIVALS, NUMBER_OUTSIDE, OUTPUT_SHORT, SENT_OUTSIDE,
-    TIME_BACK,
-};
+use rfc4737::refusal::Refusal;
 use rfc4737::time::{next_reference, too_early};
 
 // The greatest end of a fragment.
 const END_MOST: u32 = 65535;
 
 // Returns whether an arrival is a fragment that is refused with 17.
+#[tactic(auto, unfolding(crate::specs::Judge::is_unfit))]
 fn is_unfit(piece: Piece) -> bool
     ensures { result ≡ is_unfit piece }
 {
-    if is_whole(piece) {
-        return false;
-    }
-    if piece.length == 0 {
-        return true;
-    }
-    if piece.more == 0 {
-        return END_MOST < piece_end(piece);
-    }
-    if piece.length % 8 != 0 {
-        return true;
-    }
-    END_MOST < piece_end(piece)
+    !piece.is_whole()
+        && (piece.length == 0
+            || !piece.is_last() && piece.length % 8 != 0
+            || END_MOST < piece.end())
 }
 
-// Returns the first refusal of one arrival: 6, 17, 7; 0 if none applies.
-fn judge_piece(k: u64, reference: u64, piece: Piece) -> u32
-    ensures { result ≡ judge_piece k reference piece }
+// Judges one arrival: 6 comes before 17, and 17 before 7.
+fn judge_piece(k: u64, reference: u64, piece: Piece) -> Result<(), Refusal>
+    ensures { refusal_in result ≡ judge_piece k reference piece }
 {
     if outside(1, k, piece.number as u64) {
-        return NUMBER_OUTSIDE;
+        return Err(Refusal::NumberOutside);
     }
     if is_unfit(piece) {
-        return FRAGMENT_UNFIT;
+        return Err(Refusal::FragmentUnfit);
     }
     if too_early(reference, piece.time) {
-        return TIME_BACK;
+        return Err(Refusal::TimeBack);
     }
-    0
+    Ok(())
 }
 
-// Returns the refusal of the first arrival that is refused; 0 if none is.
-fn judge_pieces(
-    k: u64,
-    numbers: &[u32],
-    times: &[u64],
-    lengths: &[u16],
-    mores: &[u8],
-    offsets: &[u16],
-) -> u32
-    requires { Lists numbers.now times.now lengths.now mores.now offsets.now }
-    ensures { result ≡ judge_pieces k (pieces_in numbers.entry times.entry lengths.entry mores.entry offsets.entry) }
+// Judges the arrivals in turn.
+fn judge_pieces(k: u64, arrivals: &Arrivals) -> Result<(), Refusal>
+    ensures { refusal_in result ≡ judge_pieces k (pieces arrivals.now) }
 {
-    let mut reference: u64 = 0;
-    let mut i = 0;
-    while i < numbers.len() {
-        let piece = piece_at(numbers, times, lengths, mores, offsets, i);
-        let refusal = judge_piece(k, reference, piece);
-        if refusal != 0 {
-            return refusal;
-        }
+    let mut reference = 0;
+    for i in 0..arrivals.len() {
+        let piece = arrivals.get(i);
+        judge_piece(k, reference, piece)?;
         reference = next_reference(reference, piece.time);
-        i += 1;
     }
-    0
+    Ok(())
 }
 
 // Returns whether all lists have the same length.
+#[tactic(auto, unfolding(crate::specs::Calls::same_lengths))]
 fn same_lengths(n: usize, times: usize, lengths: usize, mores: usize, offsets: usize) -> bool
     ensures { result ≡ same_lengths n times lengths mores offsets }
 {
-    if n != times {
-        return false;
-    }
-    if n != lengths {
-        return false;
-    }
-    if n != mores {
-        return false;
-    }
-    n == offsets
+    n == times && n == lengths && n == mores && n == offsets
 }
 
-// Returns the first refusal that applies; 0 if none does.
-pub(crate) fn order_refusal(
+// Returns the lists as arrivals, or the first refusal that applies, of K, the lists, the arrivals and the room for the answers.
+pub(crate) fn accept<'a>(
     k: u32,
-    numbers: &[u32],
-    times: &[u64],
-    lengths: &[u16],
-    mores: &[u8],
-    offsets: &[u16],
-    flagroom: usize,
-    usedroom: usize,
-) -> u32
-    ensures { result ≡ order_refusal k numbers.now times.now lengths.now mores.now
-        offsets.now flagroom usedroom }
+    numbers: &'a [u32],
+    times: &'a [u64],
+    lengths: &'a [u16],
+    mores: &'a [u8],
+    offsets: &'a [u16],
+    flag_room: usize,
+    used_room: usize,
+) -> Result<Arrivals<'a>, Refusal>
+    ensures refusal { refusal_in result ≡ order_refusal k numbers.now times.now lengths.now mores.now
+        offsets.now flag_room used_room }
+    ensures arrivals { IfOk result (λ a. (a.numbers.now ≡ numbers.now)
+        × (pieces a ≡ pieces_of numbers.now times.now lengths.now mores.now offsets.now)) }
 {
     if outside(1, SENT_MOST, k as u64) {
-        return SENT_OUTSIDE;
+        return Err(Refusal::SentOutside);
     }
-    if outside(0, ARRIVALS_MOST, numbers.len() as u64) {
-        return MANY_ARRIVALS;
+    let n = numbers.len();
+    if outside(0, ARRIVALS_MOST, n as u64) {
+        return Err(Refusal::ManyArrivals);
     }
-    if !same_lengths(
-        numbers.len(),
-        times.len(),
-        lengths.len(),
-        mores.len(),
-        offsets.len(),
-    ) {
-        return LISTS_DIFFER;
+    if !same_lengths(n, times.len(), lengths.len(), mores.len(), offsets.len()) {
+        return Err(Refusal::ListsDiffer);
     }
-    let refusal = judge_pieces(k as u64, numbers, times, lengths, mores, offsets);
-    if refusal != 0 {
-        return refusal;
+    let arrivals = Arrivals {
+        numbers,
+        times,
+        lengths,
+        mores,
+        offsets,
+    };
+    judge_pieces(k as u64, &arrivals)?;
+    if flag_room < n || used_room < n {
+        return Err(Refusal::OutputShort);
     }
-    if flagroom < numbers.len() {
-        return OUTPUT_SHORT;
-    }
-    if usedroom < numbers.len() {
-        return OUTPUT_SHORT;
-    }
-    0
+    Ok(arrivals)
 }

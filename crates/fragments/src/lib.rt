@@ -5,15 +5,18 @@
 ghost use Rattle.std.specs.Prelude.{◌≡◌, ◌≤◌, length};
 ghost use Rattle.octets.specs.Memory.{over};
 ghost use Rattle.rfc4737.specs.Judge.{sent_most, arrivals_most};
+ghost use Rattle.rfc4737.specs.Refused.{refusal_in};
 ghost use Rattle.fragments.specs.Pieces.{pieces_in};
 ghost use Rattle.fragments.specs.Order.{flags};
 ghost use Rattle.fragments.specs.Usable.{usable};
-ghost use Rattle.fragments.specs.Private.{Lists, NumbersWithin};
+ghost use Rattle.fragments.specs.Private.{NumbersWithin};
+ghost use Rattle.fragments.specs.Arrivals.{pieces};
 ghost use Rattle.fragments.specs.Calls.{OrderedTo};
 ghost use Rattle.fragments.specs.Whole.{WholeFlags};
 ghost use Rattle.fragments.specs.Cases.{FlaggedAsGiven};
 
 mod arrival;
+mod arrivals;
 mod cover;
 mod flags;
 mod judge;
@@ -21,15 +24,17 @@ mod notes;
 mod sort;
 mod tables;
 
+use arrivals::Arrivals;
 use flags::fill_flags_and_used;
-use judge::order_refusal;
+use judge::accept;
 use notes::note_arrivals;
 use rfc4737::judge::SENT_MOST;
+use rfc4737::refusal::{Refusal, number_in};
 
 // The greatest number of packets, and of arrivals.
 const MAX_PACKETS: usize = SENT_MOST as usize;
 
-// An arrival: number, time, length in octets, more-fragments flag (set if not 0) and fragment offset.
+// An arrival: number, time, length in octets, more-fragments flag (set if not 0, as C lends it) and fragment offset.
 #[derive(Clone, Copy)]
 pub struct Piece {
     pub number: u32,
@@ -48,7 +53,20 @@ pub struct Expected {
 }
 
 // Fills both lists for accepted arrivals.
-fn order_accepted(
+fn order_accepted(k: u32, arrivals: &Arrivals, flagged: &mut [u8], used: &mut [u8])
+    requires { (k ≤ sent_most) × NumbersWithin k arrivals.now.numbers.now × (length arrivals.now.numbers.now ≤ arrivals_most)
+        × (length arrivals.now.numbers.now ≤ length flagged.old) × (length arrivals.now.numbers.now ≤ length used.old) }
+    ensures { (flagged.new ≡ over (flags (pieces arrivals.now)) flagged.old) × (used.new ≡ over (usable (pieces arrivals.now)) used.old) }
+{
+    let n = arrivals.len();
+    let marks = &mut flagged[..n];
+    let wholes = &mut used[..n];
+    note_arrivals(k, arrivals, marks, wholes);
+    fill_flags_and_used(arrivals, marks, wholes);
+}
+
+// Judges the lists and fills both lists for accepted arrivals.
+fn try_order(
     k: u32,
     numbers: &[u32],
     times: &[u64],
@@ -57,20 +75,17 @@ fn order_accepted(
     offsets: &[u16],
     flagged: &mut [u8],
     used: &mut [u8],
-)
-    requires { (k ≤ sent_most) × Lists numbers.now times.now lengths.now mores.now offsets.now
-        × NumbersWithin k numbers.now × (length numbers.now ≤ arrivals_most)
-        × (length numbers.now ≤ length flagged.old) × (length numbers.now ≤ length used.old) }
-    ensures { (flagged.new ≡ over (flags (pieces_in numbers.entry times.entry lengths.entry mores.entry
-        offsets.entry)) flagged.old)
-        × (used.new ≡ over (usable (pieces_in numbers.entry times.entry lengths.entry mores.entry offsets.entry))
-        used.old) }
+) -> Result<(), Refusal>
+    ensures { OrderedTo k numbers.now times.now lengths.now mores.now
+        offsets.now flagged.old used.old (refusal_in result) flagged.new used.new }
 {
-    let n = numbers.len();
-    let marks = &mut flagged[..n];
-    let wholes = &mut used[..n];
-    note_arrivals(k, numbers, times, lengths, mores, offsets, marks, wholes);
-    fill_flags_and_used(numbers, times, lengths, mores, offsets, marks, wholes);
+    let flag_room = flagged.len();
+    let used_room = used.len();
+    let arrivals = accept(
+        k, numbers, times, lengths, mores, offsets, flag_room, used_room,
+    )?;
+    order_accepted(k, &arrivals, flagged, used);
+    Ok(())
 }
 
 // Fills the start of `flagged` with the order flags of the arrivals, and the start of `used` with 1 for each usable arrival and 0 for any
@@ -91,19 +106,5 @@ pub fn order(
     ensures whole { WholeFlags (pieces_in numbers.entry times.entry lengths.entry mores.entry offsets.entry) }
     ensures cases { FlaggedAsGiven }
 {
-    let refusal = order_refusal(
-        k,
-        numbers,
-        times,
-        lengths,
-        mores,
-        offsets,
-        flagged.len(),
-        used.len(),
-    );
-    if refusal != 0 {
-        return refusal;
-    }
-    order_accepted(k, numbers, times, lengths, mores, offsets, flagged, used);
-    0
+    number_in(try_order(k, numbers, times, lengths, mores, offsets, flagged, used))
 }

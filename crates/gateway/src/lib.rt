@@ -4,27 +4,13 @@
 ghost use Rattle.std.specs.Prelude.{◌≡◌};
 ghost use Rattle.receiver.specs.Lent.{AsStep};
 
-use receiver::{Outcome, Receiver, StepAnswer};
-
-// Returns the state after a step.
-fn step_state(s: StepAnswer) -> Receiver
-    ensures { result ≡ s.state }
-{
-    s.state
-}
-
-// Returns the outcome of a step.
-fn step_outcome(s: StepAnswer) -> Outcome
-    ensures { result ≡ s.outcome }
-{
-    s.outcome
-}
+use receiver::{Outcome, Receiver};
 
 // Steps the borrowed receiver in place; returns the outcome of `Receiver::step`.
 pub fn step(r: &mut Receiver, number: u32, time: u64) -> Outcome
     ensures { AsStep r.old number time result r.new }
 {
     let s = Receiver::step(*r, number, time);
-    *r = step_state(s);
-    step_outcome(s)
+    *r = s.state;
+    s.outcome
 }

@@ -8,7 +8,8 @@ ghost use Rattle.line_faults.specs.Faults.{has_byte_order_mark, stray_at, start_
 use decimal::reading::number_at;
 use textlog::reading::{DECIMALS_MOST, NUMBER_MOST, is_decimal_mark, octet_at};
 
-// The first fault of a line. `Formed` is a line of the form whose number fits; if it is refused with 14, its time is over the range.
+// The first fault of a line. `Formed` is a line of the form whose number fits; if it is refused with 14, its time is over the range. It is
+// a case here, and not the `None` of an `Option`, since the definition `line_fault` and the table of `FaultsAsGiven` name it.
 #[derive(Clone, Copy)]
 pub enum LineFault {
     ByteOrderMark,
@@ -26,19 +27,15 @@ pub enum LineFault {
 const CARRIAGE_RETURN: u8 = 13;
 
 // Whether a line begins with the byte order mark of UTF-8: the octets EF, BB, BF.
+#[tactic(auto, unfolding(crate::specs::Faults::has_byte_order_mark))]
 fn has_byte_order_mark(line: &[u8]) -> bool
     ensures { result ≡ has_byte_order_mark line.now }
 {
-    if octet_at(line, 0) != 239 {
-        return false;
-    }
-    if octet_at(line, 1) != 187 {
-        return false;
-    }
-    octet_at(line, 2) == 191
+    line.starts_with(b"\xEF\xBB\xBF")
 }
 
 // The fault of a line whose form breaks at offset `at`.
+#[tactic(auto, unfolding(crate::specs::Faults::stray_at))]
 fn stray_at(line: &[u8], at: usize) -> LineFault
     ensures { result ≡ stray_at line.now at }
 {
@@ -52,6 +49,7 @@ fn stray_at(line: &[u8], at: usize) -> LineFault
 }
 
 // The fault of a line that begins with no digit.
+#[tactic(auto, unfolding(crate::specs::Faults::start_fault))]
 fn start_fault(line: &[u8]) -> LineFault
     ensures { result ≡ start_fault line.now }
 {
@@ -69,6 +67,7 @@ fn start_fault(line: &[u8]) -> LineFault
 }
 
 // The fault of a line whose time ends before offset `at`, where the line feed must stand.
+#[tactic(auto, unfolding(crate::specs::Faults::end_fault))]
 fn end_fault(line: &[u8], at: usize) -> LineFault
     ensures { result ≡ end_fault line.now at }
 {
@@ -79,6 +78,7 @@ fn end_fault(line: &[u8], at: usize) -> LineFault
 }
 
 // The fault of a line whose decimals begin at offset `at`.
+#[tactic(auto, unfolding(crate::specs::Faults::decimals_up_to))]
 fn decimals_fault(line: &[u8], at: usize) -> LineFault
     ensures { result ≡ decimals_fault line.now at }
 {
@@ -94,6 +94,7 @@ fn decimals_fault(line: &[u8], at: usize) -> LineFault
 }
 
 // The fault of a line whose time begins at offset `at`.
+#[tactic(auto, unfolding(crate::specs::Faults::time_up_to))]
 fn time_fault(line: &[u8], at: usize) -> LineFault
     ensures { result ≡ time_fault line.now at }
 {
@@ -111,6 +112,7 @@ fn time_fault(line: &[u8], at: usize) -> LineFault
 }
 
 // The fault of a line, given with its line feed if it has one. Cost: O(octets).
+#[tactic(auto, using(crate::proofs::Cases::faults_as_given), unfolding(crate::specs::Faults::number_fault))]
 pub fn line_fault(line: &[u8]) -> LineFault
     ensures value { result ≡ line_fault line.now }
     ensures cases { FaultsAsGiven }

@@ -1,6 +1,8 @@
 // Writes the lines of the report into the caller's buffer. A public function writes its whole line, or nothing if there is no room for
 // all of it, and returns the length of the line. A private function writes a part of a line, for which there is room, from offset `at`
-// on and returns the offset after it; its caller names that offset after the field that goes there.
+// on and returns the offset after it; its caller names that offset after the field that goes there. It writes straight into the caller's
+// buffer, since a report has a line for each arrival: in a `writing::Text` every octet would be written twice. `writing` also stands on the
+// definition of a late time here.
 #![tactic(auto)]
 
 ghost use Rattle.std.specs.Prelude.{[], ◌∷◌, ◌++◌, ◌+◌, ◌≤◌, ◌<◌, length};
@@ -139,7 +141,8 @@ fn write_sign(out: &mut [u8], at: usize, late: LateTime) -> usize
     at
 }
 
-// Writes a late time and the octet after it.
+// Writes a late time and the octet after it. `writing::Text` has its own: that crate lies above this one, and its text is not a caller's
+// buffer.
 fn write_late_time(out: &mut [u8], at: usize, late: LateTime, after: u8) -> usize
     requires { at + 22 ≤ length out.old }
     ensures { PartWritten at 22 result (late_time late ++ (after ∷ [])) out.old out.new }
@@ -159,7 +162,8 @@ fn write_header(out: &mut [u8], at: usize, k: u32, a: u32) -> usize
     write_number(out, arrivals, a, LINE_FEED)
 }
 
-// Puts the first line: K and the number of arrivals.
+// Puts the first line: K and the number of arrivals. `put_end` and `put_refused` are like it with another line; each is a public call with
+// its own contract, and one function for the three would take a closure whose contract is longer than these three lines.
 pub fn put_header(out: &mut [u8], at: usize, k: u32, a: u32) -> usize
     ensures { LinePut at (header_line k a) out.old result out.new }
 {

@@ -34,6 +34,7 @@ use Rattle.meter.specs.declared.Meter.{Meter}
 use Rattle.meter.specs.declared.MeterStepAnswer.{MeterStepAnswer}
 use Rattle.meter.specs.declared.MeterStartAnswer.{MeterStartAnswer}
 use Rattle.meter.specs.Streams.{Side, one, two, side_of, other, shared, most_kept, free_beside, takes_place, facing, receiver_of, stream_in, with_stream, with_receiver, kept_in, free}
+use Rattle.meter.specs.Lent.{AsMeterStep, AsMeterStart}
 use Rattle.meter.specs.Private.{few_kept}
 use Rattle.meter.specs.Whole.{whole_meter}
 use Rattle.meter.specs.Step.{fit_on_meter, meter_fit, not_stepped, step_on, meter_step, not_started, start_on, meter_start}
@@ -237,6 +238,26 @@ module _ (m : Meter) (n number time : ℕ) where
       → not_stepped state_unfit m ≡ meter_step m n number time
   step-beside s e k b = step-unfit s e (sym (rw (k, b) at (fit-beside m s)))
 
+  -- the stream's step, as it is made beside its neighbour
+  pub beside-stepped : (s : Side) → side_of n ≡ some s → few_kept (kept_in one m) (kept_in two m) ≡ true → (x : StepAnswer) (m' : Meter)
+      → x ≡ cond (fit (receiver_of (other s) m))
+      (step_within (min most_kept (shared - kept_in (other s) m)) (receiver_of s m) number time)
+      (record { outcome = refused_outcome state_unfit; state = receiver_of s m })
+      → m' ≡ with_receiver s x.state m
+      → ◌≡◌ {A = MeterStepAnswer} (record { outcome = x.outcome; state = m' }) (meter_step m n number time)
+  beside-stepped s e k x m' known w = go (fit (receiver_of (other s) m)) refl known
+    where
+      go : (t : Bool) → fit (receiver_of (other s) m) ≡ t
+          → x ≡ cond t (step_within (min most_kept (shared - kept_in (other s) m)) (receiver_of s m) number time)
+          (record { outcome = refused_outcome state_unfit; state = receiver_of s m })
+          → ◌≡◌ {A = MeterStepAnswer} (record { outcome = x.outcome; state = m' }) (meter_step m n number time)
+      go true b q = stepped s e k b (min most_kept (shared - kept_in (other s) m)) x m' refl q w
+      go false b q =
+          ap (λ (y : Meter). record { outcome = x.outcome; state = y }) w
+          ∙ ap (λ (y : StepAnswer). record { outcome = y.outcome; state = with_receiver s y.state m }) q
+          ∙ ap (λ (y : Meter). record { outcome = refused_outcome state_unfit; state = y }) (put_back s m)
+          ∙ step-beside s e k b
+
   -- a refused arrival leaves an equal meter
   abbrev Leaves : MeterStepAnswer → Type 0
   Leaves d = (d.outcome.refusal ≡ 0 → ⊥) → d.state ≡ m
@@ -254,6 +275,15 @@ module _ (m : Meter) (n number time : ℕ) where
       go none e t f = subst Leaves (step-nowhere e) (λ h. refl)
       go (some s) e true f = subst Leaves (step-fit s e f) (on-leaves s)
       go (some s) e false f = subst Leaves (step-unfit s e f) (λ h. refl)
+
+  -- an answer that is the step's is as the contract of a step in place says
+  pub as-step : (d : MeterStepAnswer) → d ≡ meter_step m n number time → AsMeterStep m n number time d.outcome d.state
+  as-step d e = (
+    ap (λ (p : MeterStepAnswer). p.outcome) e,
+    ap (λ (p : MeterStepAnswer). p.state) e,
+    λ refusal. ap (λ (p : MeterStepAnswer). p.state) e
+        ∙ step-refused (λ none. refusal (ap (λ (p : MeterStepAnswer). p.outcome.refusal) e ∙ none)),
+  )
 
 -- ---- the cases of a start
 
@@ -316,3 +346,12 @@ module _ (m : Meter) (n k : ℕ) where
       go none e t f = subst StartLeaves (start-nowhere e) (λ h. refl)
       go (some s) e true f = subst StartLeaves (start-fit s e f) (on-start-leaves s)
       go (some s) e false f = subst StartLeaves (start-unfit s e f) (λ h. refl)
+
+  -- an answer that is the start's is as the contract of a start in place says
+  pub as-start : (d : MeterStartAnswer) → d ≡ meter_start m n k → AsMeterStart m n k (refused_outcome d.refusal) d.state
+  as-start d e = (
+    ap (λ (p : MeterStartAnswer). refused_outcome p.refusal) e,
+    ap (λ (p : MeterStartAnswer). p.state) e,
+    λ refusal. ap (λ (p : MeterStartAnswer). p.state) e
+        ∙ start-refused (λ none. refusal (ap (λ (p : MeterStartAnswer). p.refusal) e ∙ none)),
+  )

@@ -2,26 +2,29 @@
 // (`step_in_place`), or passed and returned by value. Its rule is specs/Step.antt.
 #![tactic(auto)]
 
-ghost use Rattle.std.specs.Prelude.{◌≡◌, cond, List, ℕ, ◌-◌, ◌≤◌, min, replicate};
+ghost use Rattle.std.specs.Prelude.{◌≡◌, cond, not, [], List, ◌-◌, ◌≤◌, min, replicate};
+ghost use Rattle.rfc4737.specs.Refusals.{state_unfit};
+ghost use Rattle.rfc4737.specs.Refused.{refusal_in};
+ghost use Rattle.receiver.specs.Outcomes.{refused_outcome};
+ghost use Rattle.receiver.specs.Marks.{mark_words};
+ghost use Rattle.receiver.specs.Fit.{fit};
+ghost use Rattle.receiver.specs.Parts.{receiver_by, outcome_by};
+ghost use Rattle.receiver.specs.Step.{fresh_stream, step_within};
 ghost use Rattle.meter.specs.Streams.{shared, most_kept, stream_in};
 ghost use Rattle.meter.specs.Step.{new_meter, meter_fit, meter_step, meter_start};
 ghost use Rattle.meter.specs.Lent.{AsMeterStep, AsMeterStart};
-ghost use Rattle.meter.specs.Private.{few_kept, meter_answer_of, start_as_step};
-ghost use Rattle.meter.specs.Whole.{whole_meter};
-ghost use Rattle.receiver.specs.Outcomes.{refused_outcome};
-ghost use Rattle.receiver.specs.Marks.{mark_words};
-ghost use Rattle.receiver.specs.Parts.{places_of};
+ghost use Rattle.meter.specs.Private.{few_kept};
 ghost use Rattle.meter.specs.Account.{Call};
 ghost use Rattle.meter.specs.Demand3.{MeterDemand3};
 ghost use Rattle.meter.specs.Independence.{Independence};
 
-use receiver::advance::StreamStep;
-use receiver::{MARK_WORDS, Outcome, Places, Receiver, ReceiverAnswer, Stream, parts};
+use receiver::parts::fresh_stream;
+use receiver::{MARK_WORDS, Outcome, Places, Receiver, ReceiverAnswer, Share, Stream};
 use rfc4737::judge::{SENT_MOST, outside};
-use rfc4737::refusal;
+use rfc4737::refusal::{Refusal, number_in};
 
 // The part of a stream's state that is its own: its numbers, and a bit for each of its packets that has arrived.
-#[derive(Clone, Copy)]
+#[derive(Clone, Copy, PartialEq, Eq)]
 #[repr(C)]
 pub struct StreamState {
     pub stream: Stream,
@@ -30,7 +33,7 @@ pub struct StreamState {
 
 // The state of a meter: streams 1 and 2, and the places of their kept jumps. Stream 1 has the places from the first up, stream 2 those
 // from the last down, the oldest jump first. Those between are free.
-#[derive(Clone, Copy)]
+#[derive(Clone, Copy, PartialEq, Eq)]
 #[repr(C)]
 pub struct Meter {
     pub first: StreamState,
@@ -45,7 +48,7 @@ pub struct MeterStepAnswer {
     pub state: Meter,
 }
 
-// A meter after a fresh start of a stream: the refusal (0 for none), and the meter.
+// A meter after a fresh start of a stream: the refusal (0 for none), and the meter. A refusal leaves a meter too, as `meter_start` says.
 #[derive(Clone, Copy)]
 #[repr(C)]
 pub struct MeterStartAnswer {
@@ -74,78 +77,128 @@ impl Meter {
         ensures demand3 { (calls : List Call) → MeterDemand3 calls }
         ensures independence { Independence }
     {
-        let fresh = Receiver::fresh(1);
-        let r = fresh.state;
-        let places = r.places;
+        let fresh = Receiver::fresh(1).state;
+        let places = fresh.places;
         Meter {
-            first: stream_in(r),
-            second: stream_in(r),
+            first: stream_in(fresh),
+            second: stream_in(fresh),
             places,
         }
     }
 
     // Starts a stream afresh for k packets.
-    pub fn start(self, stream: u32, k: u32) -> MeterStartAnswer
+    pub fn start(mut self, stream: u32, k: u32) -> MeterStartAnswer
         ensures start { result ≡ meter_start self stream k }
         ensures refused { (result.refusal ≡ 0 → ⊥) → result.state ≡ self }
     {
-        let a = self.turned(true, stream, k, 0);
-        let refusal = a.outcome.refusal;
-        let state = a.state;
-        MeterStartAnswer { refusal, state }
+        let started = self.restart(stream, k);
+        MeterStartAnswer {
+            refusal: number_in(started),
+            state: self,
+        }
     }
 
     // Steps a stream with an arrival.
-    pub fn step(self, stream: u32, number: u32, time: u64) -> MeterStepAnswer
+    pub fn step(mut self, stream: u32, number: u32, time: u64) -> MeterStepAnswer
         ensures step { result ≡ meter_step self stream number time }
         ensures refused { (result.outcome.refusal ≡ 0 → ⊥) → result.state ≡ self }
     {
-        self.turned(false, stream, number, time)
+        let answer = self.advance(stream, number, time);
+        MeterStepAnswer {
+            outcome: Outcome::of(answer),
+            state: self,
+        }
     }
 
-    // Starts a stream afresh for `number` packets if `starts`, with the refusal as an outcome; else steps it with an arrival.
-    fn turned(self, starts: bool, stream: u32, number: u32, time: u64) -> MeterStepAnswer
-        ensures { result ≡ cond starts (start_as_step (meter_start self stream number)) (meter_step self stream number time) }
+    // Steps a stream in place. The neighbour's fit test is made here, the stream's own by its step.
+    fn advance(&mut self, stream: u32, number: u32, time: u64) -> Result<ReceiverAnswer, Refusal>
+        ensures { record { outcome = outcome_by result; state = self.new } ≡ meter_step self.old stream number time }
     {
-        let mut marks1 = self.first.marks;
-        let mut marks2 = self.second.marks;
-        let mut positions = self.places.positions;
-        let mut numbers = self.places.numbers;
-        let mut times = self.places.times;
-        let a = turn(
-            self.first.stream,
-            self.second.stream,
-            &mut marks1,
-            &mut marks2,
-            &mut positions,
-            &mut numbers,
-            &mut times,
-            starts,
-            stream,
-            number,
-            time,
-        );
-        let outcome = a.outcome;
-        let first = a.first;
-        let second = a.second;
-        MeterStepAnswer {
-            outcome,
-            state: Meter {
-                first: StreamState {
-                    stream: first,
-                    marks: marks1,
-                },
-                second: StreamState {
-                    stream: second,
-                    marks: marks2,
-                },
-                places: Places {
-                    positions,
-                    numbers,
-                    times,
-                },
-            },
+        if outside(1, 2, stream as u64) {
+            return Err(Refusal::NoStream);
         }
+        if !few(self.first.stream.kept, self.second.stream.kept) {
+            return Err(Refusal::StateUnfit);
+        }
+        if stream == 1 {
+            self.first
+                .step_beside(&self.second.stream, &mut self.places, false, number, time)
+        } else {
+            self.second
+                .step_beside(&self.first.stream, &mut self.places, true, number, time)
+        }
+    }
+
+    // Starts a stream afresh for k packets in place; the places are only read.
+    fn restart(&mut self, stream: u32, k: u32) -> Result<(), Refusal>
+        ensures { record { refusal = refusal_in result; state = self.new } ≡ meter_start self.old stream k }
+    {
+        if outside(1, 2, stream as u64) {
+            return Err(Refusal::NoStream);
+        }
+        if !self.is_fit() {
+            return Err(Refusal::StateUnfit);
+        }
+        if outside(1, SENT_MOST, k as u64) {
+            return Err(Refusal::SentOutside);
+        }
+        if stream == 1 {
+            self.first.restart(k);
+        } else {
+            self.second.restart(k);
+        }
+        Ok(())
+    }
+
+    // Returns whether the meter is fit.
+    fn is_fit(&self) -> bool
+        ensures { result ≡ meter_fit self.now }
+    {
+        few(self.first.stream.kept, self.second.stream.kept)
+            && self.first.stream.is_fit_with(&self.places, false)
+            && self.second.stream.is_fit_with(&self.places, true)
+    }
+}
+
+impl StreamState {
+    // Steps the stream beside a neighbour, which has the places from the other end and must be fit.
+    fn step_beside(
+        &mut self,
+        neighbour: &Stream,
+        places: &mut Places,
+        down: bool,
+        number: u32,
+        time: u64,
+    ) -> Result<ReceiverAnswer, Refusal>
+        requires { neighbour.now.kept ≤ most_kept }
+        ensures { record {
+          outcome = outcome_by result;
+          state = receiver_by down self.new.stream self.new.marks places.new;
+        }
+            ≡ cond (fit (receiver_by (not down) neighbour.now [] places.old))
+            (step_within (min most_kept (shared - neighbour.now.kept)) (receiver_by down self.old.stream self.old.marks places.old) number time)
+            (record {
+              outcome = refused_outcome state_unfit;
+              state = receiver_by down self.old.stream self.old.marks places.old;
+            }) }
+    {
+        if !neighbour.is_fit_with(places, !down) {
+            return Err(Refusal::StateUnfit);
+        }
+        let share = Share {
+            down,
+            most: most_beside(neighbour.kept),
+        };
+        self.stream
+            .step(&mut self.marks, places, share, number, time)
+    }
+
+    // Makes the stream a fresh one for k packets.
+    fn restart(&mut self, k: u32)
+        ensures { self.new ≡ record { stream = fresh_stream k; marks = replicate mark_words 0 } }
+    {
+        self.stream = fresh_stream(k);
+        self.marks = [0u64; MARK_WORDS];
     }
 }
 
@@ -153,9 +206,11 @@ impl Meter {
 fn stream_in(r: Receiver) -> StreamState
     ensures { result ≡ stream_in r }
 {
-    let stream = r.stream;
     let marks = r.marks;
-    StreamState { stream, marks }
+    StreamState {
+        stream: r.stream,
+        marks,
+    }
 }
 
 // Returns how many jumps a stream can keep beside a neighbour that keeps `kept`.
@@ -163,253 +218,29 @@ fn most_beside(kept: u32) -> u32
     requires { kept ≤ most_kept }
     ensures { result ≡ min most_kept (shared - kept) }
 {
-    if Meter::PLACES - kept < Meter::MOST_KEPT {
-        return Meter::PLACES - kept;
-    }
-    Meter::MOST_KEPT
-}
-
-// Returns an outcome that notes nothing, and the numbers of both streams.
-fn answered(refusal: u32, first: Stream, second: Stream) -> StreamsStep
-    ensures { result ≡ record { outcome = refused_outcome refusal; first = first; second = second } }
-{
-    StreamsStep {
-        outcome: Outcome {
-            refusal,
-            noted: ReceiverAnswer::InOrder(0),
-        },
-        first,
-        second,
-    }
+    Meter::MOST_KEPT.min(Meter::PLACES - kept)
 }
 
 // Returns whether two streams that keep `first` and `second` jumps keep few enough.
 fn few(first: u32, second: u32) -> bool
     ensures { result ≡ few_kept first second }
 {
-    if Meter::MOST_KEPT < first {
-        return false;
-    }
-    if Meter::MOST_KEPT < second {
-        return false;
-    }
-    first + second <= Meter::PLACES
+    first <= Meter::MOST_KEPT && second <= Meter::MOST_KEPT && first + second <= Meter::PLACES
 }
 
-// Returns whether a meter of these numbers and places is fit, whatever its marks.
-fn is_fit<'a>(
-    first: Stream,
-    second: Stream,
-    positions: &'a [u16; Receiver::WINDOW],
-    numbers: &'a [u16; Receiver::WINDOW],
-    times: &'a [u64; Receiver::WINDOW],
-) -> bool
-    ensures { (marks₁ marks₂ : List ℕ) → result ≡ meter_fit
-        (whole_meter first second marks₁ marks₂ (places_of positions.now numbers.now times.now)) }
-{
-    if !few(first.kept, second.kept) {
-        return false;
-    }
-    if !parts::is_fit(first, false, positions, numbers, times) {
-        return false;
-    }
-    parts::is_fit(second, true, positions, numbers, times)
-}
-
-// Returns the outcome of a step of stream 1 and its numbers, beside those of stream 2.
-fn first_stepped(a: StreamStep, second: Stream) -> StreamsStep
-    ensures { result ≡ record { outcome = a.outcome; first = a.stream; second = second } }
-{
-    let outcome = a.outcome;
-    let first = a.stream;
-    StreamsStep {
-        outcome,
-        first,
-        second,
-    }
-}
-
-// The same for stream 2, beside the numbers of stream 1.
-fn second_stepped(a: StreamStep, first: Stream) -> StreamsStep
-    ensures { result ≡ record { outcome = a.outcome; first = first; second = a.stream } }
-{
-    let outcome = a.outcome;
-    let second = a.stream;
-    StreamsStep {
-        outcome,
-        first,
-        second,
-    }
-}
-
-// Steps a stream on the meter's parts: the numbers by value, the marks and the places borrowed and written in place. The neighbour's
-// fit test is made here, the stream's own by its step.
-fn advance<'a>(
-    first: Stream,
-    second: Stream,
-    marks1: &'a mut [u64; MARK_WORDS],
-    marks2: &'a mut [u64; MARK_WORDS],
-    positions: &'a mut [u16; Receiver::WINDOW],
-    numbers: &'a mut [u16; Receiver::WINDOW],
-    times: &'a mut [u64; Receiver::WINDOW],
-    stream: u32,
-    number: u32,
-    time: u64,
-) -> StreamsStep
-    ensures { meter_answer_of result marks1.new marks2.new
-        (places_of positions.new numbers.new times.new)
-        ≡ meter_step (whole_meter first second marks1.old marks2.old
-        (places_of positions.old numbers.old times.old)) stream number time }
-{
-    if outside(1, 2, stream as u64) {
-        return answered(refusal::NO_STREAM, first, second);
-    }
-    if !few(first.kept, second.kept) {
-        return answered(refusal::STATE_UNFIT, first, second);
-    }
-    if stream == 1 {
-        if !parts::is_fit(second, true, positions, numbers, times) {
-            return answered(refusal::STATE_UNFIT, first, second);
-        }
-        let a = parts::advance(
-            first,
-            false,
-            most_beside(second.kept),
-            marks1,
-            positions,
-            numbers,
-            times,
-            number,
-            time,
-        );
-        return first_stepped(a, second);
-    }
-    if !parts::is_fit(first, false, positions, numbers, times) {
-        return answered(refusal::STATE_UNFIT, first, second);
-    }
-    let a = parts::advance(
-        second,
-        true,
-        most_beside(first.kept),
-        marks2,
-        positions,
-        numbers,
-        times,
-        number,
-        time,
-    );
-    second_stepped(a, first)
-}
-
-// Clears the marks.
-fn clear(marks: &mut [u64; MARK_WORDS])
-    ensures { marks.new ≡ replicate mark_words 0 }
-{
-    *marks = [0u64; MARK_WORDS];
-}
-
-// Starts a stream afresh for k packets on the meter's parts, which are borrowed as by `advance`; the places are only read. The outcome
-// has the refusal, 0 for none, and notes nothing.
-fn restart<'a>(
-    first: Stream,
-    second: Stream,
-    marks1: &'a mut [u64; MARK_WORDS],
-    marks2: &'a mut [u64; MARK_WORDS],
-    positions: &'a mut [u16; Receiver::WINDOW],
-    numbers: &'a mut [u16; Receiver::WINDOW],
-    times: &'a mut [u64; Receiver::WINDOW],
-    stream: u32,
-    k: u32,
-) -> StreamsStep
-    ensures { meter_answer_of result marks1.new marks2.new
-        (places_of positions.new numbers.new times.new)
-        ≡ start_as_step (meter_start (whole_meter first second marks1.old marks2.old
-        (places_of positions.old numbers.old times.old)) stream k) }
-{
-    if outside(1, 2, stream as u64) {
-        return answered(refusal::NO_STREAM, first, second);
-    }
-    if !is_fit(first, second, positions, numbers, times) {
-        return answered(refusal::STATE_UNFIT, first, second);
-    }
-    if outside(1, SENT_MOST, k as u64) {
-        return answered(refusal::SENT_OUTSIDE, first, second);
-    }
-    if stream == 1 {
-        clear(marks1);
-        return answered(0, parts::fresh_stream(k), second);
-    }
-    clear(marks2);
-    answered(0, first, parts::fresh_stream(k))
-}
-
-// Starts a stream afresh for `number` packets if `starts`, else steps it with an arrival, on the meter's parts.
-fn turn<'a>(
-    first: Stream,
-    second: Stream,
-    marks1: &'a mut [u64; MARK_WORDS],
-    marks2: &'a mut [u64; MARK_WORDS],
-    positions: &'a mut [u16; Receiver::WINDOW],
-    numbers: &'a mut [u16; Receiver::WINDOW],
-    times: &'a mut [u64; Receiver::WINDOW],
-    starts: bool,
-    stream: u32,
-    number: u32,
-    time: u64,
-) -> StreamsStep
-    ensures { meter_answer_of result marks1.new marks2.new
-        (places_of positions.new numbers.new times.new)
-        ≡ cond starts
-        (start_as_step (meter_start (whole_meter first second marks1.old marks2.old (places_of positions.old numbers.old times.old)) stream number))
-        (meter_step (whole_meter first second marks1.old marks2.old (places_of positions.old numbers.old times.old)) stream number time) }
-{
-    if starts {
-        return restart(
-            first, second, marks1, marks2, positions, numbers, times, stream, number,
-        );
-    }
-    advance(
-        first, second, marks1, marks2, positions, numbers, times, stream, number, time,
-    )
-}
-
-// Steps the borrowed meter in place; returns the outcome of `Meter::step`. Only the numbers of the two streams are copied.
+// Steps the borrowed meter in place; returns the outcome of `Meter::step`.
 pub fn step_in_place(m: &mut Meter, stream: u32, number: u32, time: u64) -> Outcome
     ensures { AsMeterStep m.old stream number time result m.new }
 {
-    let a = advance(
-        m.first.stream,
-        m.second.stream,
-        &mut m.first.marks,
-        &mut m.second.marks,
-        &mut m.places.positions,
-        &mut m.places.numbers,
-        &mut m.places.times,
-        stream,
-        number,
-        time,
-    );
-    m.first.stream = a.first;
-    m.second.stream = a.second;
-    a.outcome
+    Outcome::of(m.advance(stream, number, time))
 }
 
 // Starts a stream of the borrowed meter afresh in place; returns an outcome with the refusal of `Meter::start` that notes nothing.
 pub fn start_in_place(m: &mut Meter, stream: u32, k: u32) -> Outcome
     ensures { AsMeterStart m.old stream k result m.new }
 {
-    let a = restart(
-        m.first.stream,
-        m.second.stream,
-        &mut m.first.marks,
-        &mut m.second.marks,
-        &mut m.places.positions,
-        &mut m.places.numbers,
-        &mut m.places.times,
-        stream,
-        k,
-    );
-    m.first.stream = a.first;
-    m.second.stream = a.second;
-    a.outcome
+    Outcome {
+        refusal: number_in(m.restart(stream, k)),
+        noted: ReceiverAnswer::InOrder(0),
+    }
 }

@@ -1,13 +1,12 @@
--- The needs of a sample, answer by answer. A need is counted at the index of the first size that is enough for it (`step-low`,
--- `step_past`), so the sum of the counts up to a size grows by 1 exactly if the size is enough (`counted-in`, `counted-out`). So a pass
--- finds counts and greatest need record by record (`after-duplicate`, `after_first`); no count exceeds the number of answers
--- (`needs-few`). The summed counts are those of the definition (`steps-made`). Last, the need of a record by its class, and that the tree
--- can be filled.
+-- The needs of a sample, answer by answer. A need is counted at the index of the first size that is enough for it (`step_past`), so the
+-- sum of the counts up to a size grows by 1 exactly if the size is enough (`counted-in`, `counted-out`). So a pass finds counts and
+-- greatest need record by record (`after-duplicate`, `after_first`); no count exceeds the number of answers (`needs-few`). The summed
+-- counts are those of the definition (`steps-made`). Last, the need of a record by its class, and that the tree can be filled.
 -- Here m is the measure, the sizes are low + j * 2^shift, l some answers, a the next one and k its class. Assumes nothing.
 use mathlib.Core.Path.{◌≡◌, refl, sym, ap, ◌∙◌}
 use mathlib.Core.Bool.{Bool, true, false, cond, not}
 use mathlib.Core.List.{List, [], ◌∷◌, ◌++◌, map}
-use Prim.Native.Nat.{ℕ, zero, suc, ◌+◌, ◌-◌, ◌*◌, ◌/◌, ◌^◌, ◌≤◌, ◌<◌}
+use Prim.Native.Nat.{ℕ, zero, suc, ◌+◌, ◌-◌, ◌*◌, ◌/◌, ◌^◌, ◌≤◌, ◌<◌, max}
 use native.Mathlib.Nat.{suc-mul, div-lt_iff_lt-mul, div-eq_of_lt, lt_of_lt_of_le, pow-le-pow_right, zero-lt-suc}
 use native.Mathlib.Omega.{arith}
 use lib.Dec.{eqb, leb, ltb}
@@ -31,7 +30,8 @@ use Rattle.rfc4737.specs.Needs.{waiting_time, needed_for, greatest_need, accommo
 use Rattle.metrics.specs.Private.Needs.{NeedInput, needs_with, count_to, Counted, NeedsOf}
 use Rattle.metrics.specs.Private.Engine.{FillInput}
 use Rattle.metrics.specs.Private.Tables.{ClassOf}
-use Rattle.metrics.specs.declared.engine.byte_offset.Totals.{Totals}
+use Rattle.metrics.specs.declared.engine.byte_offset.PairTree.{PairTree}
+use Rattle.metrics.specs.declared.engine.seen.Tables.{Tables}
 use Rattle.metrics.specs.declared.engine.kind.Class.{Class}
 use Rattle.metrics.specs.declared.figures.needs.Needs.{Needs}
 use Rattle.metrics.specs.declared.SampleSteps.{SampleSteps}
@@ -104,10 +104,7 @@ module _ (low shift need : ℕ) (counts : List ℕ) (places : length counts ≡ 
             ∙ lt-leb step j (omega (arith, few)) in rw e refl;
       }
 
--- the first size that is enough for a need: `low`, or the first past it
-pub step-low : (low shift need : ℕ) → need ≤ low → (j : ℕ) → leb 0 j ≡ leb need (low + j * 2 ^ shift)
-step-low low shift need h j = le-leb 0 j (omega arith) ∙ sym (le-leb need (low + j * 2 ^ shift) (omega arith))
-
+-- the first size past a need over `low`
 pub step_past : (low shift need over : ℕ) → low + suc over ≡ need → (j : ℕ) → leb (over / 2 ^ shift + 1) j ≡ leb need (low + j * 2 ^ shift)
 step_past low shift need over e j = go (leb need (low + j * 2 ^ shift)) refl
   where
@@ -169,6 +166,14 @@ module _ (old new : List ℕ) (sum j : ℕ) (s : SummedTo old new sum j) (few : 
 
 -- ---- the next answer
 
+-- the greater of two numbers
+max-cond : (a b : ℕ) → max a b ≡ cond (ltb a b) b a
+max-cond a b = go (ltb a b) refl
+  where
+    go : (t : Bool) → ltb a b ≡ t → max a b ≡ cond t b a
+    go true e = omega (arith, ltb-true a b e)
+    go false e = omega (arith, ltb-false a b e)
+
 -- a duplicate leaves the greatest need
 greatest-same : (m : Measure) (l : List Answer) (a : Answer) → needed_for m a ≡ 0 → greatest_need m (l ++ (a ∷ [])) ≡ greatest_need m l
 greatest-same m l a z = need-more m l a ∙ rw (z, le-ltb (greatest_need m l) 0 (omega arith)) refl
@@ -195,7 +200,7 @@ module _ (m : Measure) (low shift : ℕ) (l : List Answer) (needs : Needs) (coun
   after_first need a first e new c h =
       record {
         many = rw h.many (sym (rw (arrived-more l a, first) refl));
-        most = rw (h.most, e) (sym (need-more m l a));
+        most = rw (h.most, e, max-cond) (sym (need-more m l a));
         places = c.places;
         at = λ j few.
             let same : accommodates m (low + j * 2 ^ shift) a ≡ leb need (low + j * 2 ^ shift) = rw (first, e) refl in
@@ -318,12 +323,12 @@ module _ (d : Decoded) (m : Measure) (low shift : ℕ) (r : SampleSteps) (is : r
 
 -- ---- the need of a record, by its class after `count` first arrivals
 
-module _ (m : Measure) (count : ℕ) where
-  pub need-duplicate : (first : ℕ) (a : Answer) → ClassOf count (Class.Duplicate first) a → 0 ≡ needed_for m a
-  need-duplicate first a k = rw k.is refl
-
-  pub need-in-order : (jump : ℕ) (a : Answer) → ClassOf count (Class.InOrder jump) a → 0 ≡ needed_for m a
-  need-in-order jump a k = rw k.is refl
+-- a record that is not reordered needs nothing
+pub need-none : (m : Measure) (count : ℕ) (k : Class) (a : Answer) → ClassOf count k a → ((at : ℕ) → k ≡ Class.Reordered at → ⊥)
+    → 0 ≡ needed_for m a
+need-none m count (Class.Duplicate first) a t n = rw t.is refl
+need-none m count (Class.InOrder jump) a t n = rw t.is refl
+need-none m count (Class.Reordered at) a t n = absurd (n at refl)
 
 module _ (count at : ℕ) (a : Answer) (k : ClassOf count (Class.Reordered at) a) where
   pub need-packets : count + 1 - at ≡ needed_for Measure.Packets a
@@ -340,9 +345,8 @@ module _ (count at : ℕ) (a : Answer) (k : ClassOf count (Class.Reordered at) a
 -- ---- the tree
 
 -- the tree can be filled where a need is asked for
-pub need-filling : (d : Decoded) (layout : Layout) (i : ℕ) (arrival : Arrival) (numbers records tree : List ℕ) (count : ℕ) (totals : Totals)
-    (k : Class)
-    → NeedInput d layout i arrival numbers records tree count totals k → FillInput d layout numbers tree count totals
-need-filling d layout i arrival numbers records tree count totals k p =
-    let q = packets d layout i p.there.file numbers count p.numbered (omega (arith, p.there.inside)) in
-    record { file = p.there.file; few = q.0; packets = q.1; fs = firsts (before d i); numbered = p.numbered; totalled = p.totalled }
+pub need-filling : (d : Decoded) (layout : Layout) (i : ℕ) (arrival : Arrival) (tables : Tables) (tree : PairTree) (count : ℕ) (k : Class)
+    → NeedInput d layout i arrival tables tree count k → FillInput d layout tables.numbers tree count
+need-filling d layout i arrival tables tree count k p =
+    let q = packets d layout i p.there.file tables.numbers count p.numbered (omega (arith, p.there.inside)) in
+    record { few = q.0; packets = q.1; fs = firsts (before d i); numbered = p.numbered; totalled = p.totalled }

@@ -18,9 +18,8 @@ use Rattle.sample.specs.Output.{if_none}
 use Rattle.metrics.specs.Agreement.{common, same_text, sample_agreement}
 use Rattle.metrics.specs.Report.{sample_text}
 use Rattle.metrics.specs.Records.{FileLayout}
-use Rattle.metrics.specs.Private.Taken.{Agreed}
+use Rattle.metrics.specs.Private.Taken.{Part, Agreed}
 use Rattle.metrics.specs.declared.SampleAgreement.{SampleAgreement}
-use Rattle.metrics.specs.declared.report.line_agreement.Part.{Part}
 use Rattle.metrics.proofs.Common.{eqb_same, common-le, common-part, common-after, same-common}
 
 -- ---- lines

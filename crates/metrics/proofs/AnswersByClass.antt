@@ -32,6 +32,7 @@ use Rattle.rfc4737.specs.Answer.{in_order_answer, reordered_answer}
 use Rattle.rfc4737.proofs.Arrivals.{has-firsts, length-firsts}
 use Rattle.rfc4737.proofs.Folds.{answer-duplicate, answer-first, first-in-order, first-reordered}
 use Rattle.rfc4737.proofs.Jumps.{reordered-discontinuity}
+use Rattle.rfc4737.specs.Runs.{is_reordered}
 use Rattle.rfc4737.specs.Judge.{sent_most}
 use Rattle.sample.specs.declared.Layout.{Layout}
 use Rattle.sample.specs.Decode.{Decoded}
@@ -143,6 +144,19 @@ module _ (d : Decoded) (i : ℕ) (numbers records skipped : List ℕ) (state : S
         lt-leb state.next n (omega (arith, f.next)),
       ) in
       rw late at holds
+
+-- nothing is said of a class that is not that of a reordered packet
+pub late-never : (holds : ℕ → Type 0) (k : Class) → ((at : ℕ) → k ≡ Class.Reordered at → ⊥) → IfLate holds k
+late-never holds (Class.Duplicate first) n = tt
+late-never holds (Class.InOrder jump) n = tt
+late-never holds (Class.Reordered at) n = absurd (n at refl)
+
+-- and its answer is not reordered
+pub late-none : (count : ℕ) (k : Class) (a : Answer) → ClassOf count k a → ((at : ℕ) → k ≡ Class.Reordered at → ⊥)
+    → is_reordered a ≡ false
+late-none count (Class.Duplicate first) a t n = ap is_reordered t.is
+late-none count (Class.InOrder jump) a t n = ap is_reordered t.is
+late-none count (Class.Reordered at) a t n = absurd (n at refl)
 
 -- of two facts about a reordered packet a third
 pub late-both : {P Q R : ℕ → Type 0} (k : Class) → ((at : ℕ) → P at → Q at → R at) → IfLate P k → IfLate Q k → IfLate R k

@@ -114,10 +114,6 @@ common-after (x ∷ e) rest (y ∷ t) h = go (eqb x y) (common-after e rest t) h
     go true k h = let q = k (omega arith) in omega arith
     go false k h = absurd (omega arith)
 
--- what is left of a text after a place, taken as a part of it
-pub rest_part : (t : List ℕ) (at : ℕ) → take (length t - at) (drop at t) ≡ drop at t
-rest_part t at = let e : length (drop at t) ≤ length t - at = omega (arith, length-drop at t) in take_all (length t - at) (drop at t) e
-
 -- ---- a line that was put at the start of a buffer
 
 module _ (line old new : List ℕ) (n : ℕ) (e : n ≡ length line) (h : length line ≤ length old) (q : new ≡ put 0 line old) where

@@ -5,6 +5,7 @@
 -- else by the two entries, of which the smaller is the earlier discoverer (`gap-near`).
 -- Here l are the answers, discoverers the table, m that it has their discoverers, p the position, q one before it and b the neighbour.
 -- Assumes nothing.
+use Rattle.std.specs.Prelude.{None, Some}
 use mathlib.Core.Path.{◌≡◌, refl, sym, ap, ◌∙◌}
 use mathlib.Core.Bool.{Bool, true, false, cond, not}
 use mathlib.Core.List.{List}
@@ -15,8 +16,7 @@ use lib.Dec.{eqb, ltb}
 use lib.ListN.{get_or}
 use borrow.Author.Tests.{eq-eqb, ne_eqb, eqb-false, le-ltb}
 use Rattle.rfc4737.specs.declared.Answer.{Answer}
-use Rattle.rfc4737.specs.declared.Gap.{Gap}
-use Rattle.rfc4737.specs.Gaps.{discoverer, is_some, earlier, neighbour, gap_over, gap_of}
+use Rattle.rfc4737.specs.Gaps.{Gap, discoverer, is_some, earlier, neighbour, gap_over, gap_of}
 use Rattle.rfc4737.specs.Judge.{sent_most}
 use Rattle.metrics.specs.Private.Steps.{DiscoverersAt, last_to, known}
 use Rattle.metrics.proofs.OneArrivalMore.{known_some}
@@ -80,10 +80,20 @@ earlier-none none = refl
 earlier-none (some d) = refl
 
 -- a position that is no discontinuity has no gap, over any neighbour
-none_over : (l : List Answer) (p : ℕ) → discoverer p l ≡ none → (b : Option ℕ) → gap_over l p b ≡ Gap.None
+none_over : (l : List Answer) (p : ℕ) → discoverer p l ≡ none → (b : Option ℕ) → gap_over l p b ≡ None
 unfolding gap_over
 none_over l p e none = refl
 none_over l p e (some q) = rw (e, earlier-none (discoverer q l))
+
+-- a number that stands for no position
+pub known-none : (n : ℕ) → none ≡ known n → n ≡ 0
+known-none zero e = refl
+known-none (suc n) e = cc
+
+-- and one that stands for a position
+pub known-is : (b n : ℕ) → some b ≡ known n → (b ≡ n) × (1 ≤ b)
+known-is b zero e = cc
+known-is b (suc n) e = let s : b ≡ suc n = cc in (s, omega (arith, s))
 
 module _ (l : List Answer) where
   module _ (discoverers : List ℕ) (m : DiscoverersAt l discoverers) where
@@ -124,18 +134,18 @@ module _ (l : List Answer) where
 
     module _ (p : ℕ) (low : 1 ≤ p) (few : p ≤ sent_most) where
       -- there is none at a position that is no discontinuity
-      pub gap_other : get_or discoverers p 0 ≡ 0 → Gap.None ≡ gap_of l (some p)
+      pub gap_other : get_or discoverers p 0 ≡ 0 → None ≡ gap_of l (some p)
       gap_other e = sym (gap-known p low few ∙ none_over l p (sym (m.at p low few) ∙ ap known e) (known (last_to discoverers (p - 1))))
 
       module _ (b : ℕ) (e : b ≡ last_to discoverers (p - 1)) where
         -- nor at the first one
-        pub gap-first : b ≡ 0 → Gap.None ≡ gap_of l (some p)
+        pub gap-first : b ≡ 0 → None ≡ gap_of l (some p)
         unfolding gap_over
         gap-first z = sym (gap-known p low few ∙ rw (← e, z))
 
         -- any other has one if the one before it was discovered earlier
         pub gap-near : (t : Bool) → (b ≡ 0 → ⊥) → ltb (get_or discoverers b 0) (get_or discoverers p 0) ≡ t
-            → cond t (Gap.Positions (p - b)) Gap.None ≡ gap_of l (some p)
+            → cond t (Some (p - b)) None ≡ gap_of l (some p)
         unfolding gap_over
         gap-near t s k =
             let marked : get_or discoverers b 0 ≡ 0 → ⊥ = rw e (last-marked discoverers (p - 1) (λ z. s (e ∙ z))) in

@@ -25,7 +25,7 @@ use Rattle.metrics.specs.Private.Engine.{SizeTree, FillInput, EngineState}
 use Rattle.metrics.specs.declared.engine.Engine.{Engine}
 use Rattle.metrics.specs.declared.engine.kind.Class.{Class}
 use Rattle.metrics.specs.declared.engine.seen.State.{State}
-use Rattle.metrics.specs.declared.engine.byte_offset.Totals.{Totals}
+use Rattle.metrics.specs.declared.engine.byte_offset.PairTree.{PairTree}
 use Rattle.metrics.proofs.TablesFollow.{before_more}
 use Rattle.metrics.proofs.AnswersByClass.{packets, late-told}
 use Rattle.metrics.proofs.OneArrivalMore.{follows-start}
@@ -34,15 +34,18 @@ use Rattle.metrics.proofs.NotingArrivals.{noted-follows, noted-linked}
 use Rattle.metrics.proofs.Pairs.{size-tree-none}
 
 -- before any record
-pub engine-start : (d : Decoded) → EngineState d 0 (replicate sent_most 0) (replicate number_places 0) (replicate number_places 0)
-    (replicate 2049 0)
-    (record { noted = record { count = 0; next = 1 }; totals = record { filled = 0; total = 0 } })
+pub engine-start : (d : Decoded) → EngineState d 0
+    (record {
+      tables =
+          record { numbers = replicate sent_most 0; records = replicate number_places 0; skipped = replicate number_places 0 };
+      state = record { count = 0; next = 1 };
+      tree = record { sums = replicate 2049 0; filled = 0; total = 0 };
+    })
 engine-start d = record { follows = follows-start d; linked = linked-start 1 d; totalled = size-tree-none (size_of d) (firsts (before d 0)) }
 
 -- a tree of some first arrivals stays one where others come after them
-size-tree-grown : (size : ℕ → ℕ) (fs more : List Arrival) (tree : List ℕ) (t : Totals) → SizeTree size fs tree t
-    → SizeTree size (fs ++ more) tree t
-size-tree-grown size fs more tree t k =
+size-tree-grown : (size : ℕ → ℕ) (fs more : List Arrival) (t : PairTree) → SizeTree size fs t → SizeTree size (fs ++ more) t
+size-tree-grown size fs more t k =
     let same : take t.filled (fs ++ more) ≡ take t.filled fs = take-append-le t.filled fs more k.some in
     record {
       places = k.places;
@@ -53,17 +56,17 @@ size-tree-grown size fs more tree t k =
 
 module _ (d : Decoded) (layout : Layout) (i : ℕ) (h : HasRecord d layout i) where
   -- so does the tree after record i + 1
-  pub size-tree-next : (tree : List ℕ) (t : Totals) → SizeTree (size_of d) (firsts (before d i)) tree t
-      → SizeTree (size_of d) (firsts (before d (i + 1))) tree t
-  size-tree-next tree t k =
+  pub size-tree-next : (t : PairTree) → SizeTree (size_of d) (firsts (before d i)) t
+      → SizeTree (size_of d) (firsts (before d (i + 1))) t
+  size-tree-next t k =
       rw (before_more d layout i h, firsts_more (before d i) (arrival_at d i)) (go (has (arrival_at d i).number (firsts (before d i))) refl)
     where
       go : (b : Bool) → has (arrival_at d i).number (firsts (before d i)) ≡ b
-          → SizeTree (size_of d) (with_arrival (firsts (before d i)) (arrival_at d i)) tree t
+          → SizeTree (size_of d) (with_arrival (firsts (before d i)) (arrival_at d i)) t
       go true e = rw (with-duplicate (firsts (before d i)) (arrival_at d i) e) k
       go false e =
           rw (with_first (firsts (before d i)) (arrival_at d i) e)
-          (size-tree-grown (size_of d) (firsts (before d i)) (arrival_at d i ∷ []) tree t k)
+          (size-tree-grown (size_of d) (firsts (before d i)) (arrival_at d i ∷ []) t k)
 
   -- the links can be followed
   pub links-laid : (more : ℕ) (numbers links : List ℕ) (count : ℕ) → NumberTable (firsts (before d i)) numbers count
@@ -86,20 +89,21 @@ module _ (d : Decoded) (layout : Layout) (i : ℕ) (h : HasRecord d layout i) wh
           (λ new behind. (late-told d i numbers records skipped state f number is low high k e late new behind).0) l
 
       -- the state after record i + 1
-      pub engine-next : (tree' : List ℕ) (totals' : Totals) → LinkTable 1 (firsts (before d i)) skipped
-          → SizeTree (size_of d) (firsts (before d i)) tree' totals'
-          → EngineState d (i + 1) numbers' records' skipped' tree' (record { noted = state'; totals = totals' })
-      engine-next tree' totals' l t =
+      pub engine-next : (tree' : PairTree) → LinkTable 1 (firsts (before d i)) skipped
+          → SizeTree (size_of d) (firsts (before d i)) tree'
+          → EngineState d (i + 1)
+          (record { tables = record { numbers = numbers'; records = records'; skipped = skipped' }; state = state'; tree = tree' })
+      engine-next tree' l t =
           record {
             follows = noted-follows d layout i h numbers records skipped state f number is largest numbers' records' skipped' state' n;
             linked = linked-next l;
-            totalled = size-tree-next tree' totals' t;
+            totalled = size-tree-next tree' t;
           }
 
   -- the tree can be filled
-  pub engine-filling : (numbers records skipped tree : List ℕ) (engine : Engine) → EngineState d i numbers records skipped tree engine
-      → FillInput d layout numbers tree engine.noted.count engine.totals
-  engine-filling numbers records skipped tree engine r =
+  pub engine-filling : (engine : Engine) → EngineState d i engine
+      → FillInput d layout engine.tables.numbers engine.tree engine.state.count
+  engine-filling engine r =
       let n = r.follows.numbered in
-      let k = packets d layout i h.file numbers engine.noted.count n (omega (arith, h.inside)) in
-      record { file = h.file; few = k.0; packets = k.1; fs = firsts (before d i); numbered = n; totalled = r.totalled }
+      let k = packets d layout i h.file engine.tables.numbers engine.state.count n (omega (arith, h.inside)) in
+      record { few = k.0; packets = k.1; fs = firsts (before d i); numbered = n; totalled = r.totalled }

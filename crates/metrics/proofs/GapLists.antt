@@ -14,14 +14,13 @@ use Prim.Native.Nat.{ℕ, zero, suc, ◌+◌, ◌-◌, ◌≤◌, ◌<◌}
 use native.Mathlib.Omega.{arith}
 use lib.ListN.{length, take, drop, get_or, take-append-drop, length-append, length-map, get_or-map}
 use lib.Seq.{take_all}
-use borrow.Author.Tests.{eq-eqb, ne_eqb}
+use borrow.Author.Tests.{eq-eqb}
 use Rattle.octets.specs.Memory.{over}
 use Rattle.rfc4737.specs.declared.Arrival.{Arrival}
 use Rattle.rfc4737.specs.declared.Answer.{Answer}
-use Rattle.rfc4737.specs.declared.Gap.{Gap}
 use Rattle.rfc4737.specs.Arrivals.{has, firsts, first_record}
 use Rattle.rfc4737.specs.Answer.{answers}
-use Rattle.rfc4737.specs.Gaps.{position_of, discoverer, is_some, earlier, neighbour, gap_over, gap_of, gaps}
+use Rattle.rfc4737.specs.Gaps.{Gap, position_of, discoverer, is_some, earlier, neighbour, gap_over, gap_of, gaps}
 use Rattle.rfc4737.proofs.Arrivals.{has_more, firsts-duplicate, firsts-first, record-more, length-firsts}
 use Rattle.rfc4737.proofs.Folds.{answer-duplicate, length-answers}
 use Rattle.rfc4737.specs.Judge.{sent_most}
@@ -33,7 +32,8 @@ use Rattle.metrics.specs.Records.{arrival_at, before, answer_at, FileLayout, Has
 use Rattle.metrics.specs.Figures.{at_record, record_gap}
 use Rattle.metrics.specs.Gaps.{gap_number, number_gap, gap_numbers, list_short, GapsTo, GapsTell}
 use Rattle.metrics.specs.Private.Tables.{RecordTable}
-use Rattle.metrics.specs.Private.Steps.{known, last_to, count_after, PositionAt}
+use Rattle.std.specs.Prelude.{Option as Found, Some, None, IfSome}
+use Rattle.metrics.specs.Private.Steps.{found, known, last_to, PositionAt}
 use Rattle.metrics.proofs.Records.{record-some, record-stays}
 use Rattle.metrics.proofs.TablesFollow.{arrivals-laid, before_more, before-length}
 use Rattle.metrics.proofs.OneArrivalMore.{known_some}
@@ -83,33 +83,31 @@ module _ (d : Decoded) (layout : Layout) (i : ℕ) (h : HasRecord d layout i) wh
 
   module _ (r : ℕ) (is : r ≡ first_record (arrival_at d i).number (sample_arrivals d)) (n : ℕ) (many : n ≡ length (firsts (before d i))) where
     -- a first arrival has the next position
-    pub position-new : r ≡ i + 1 → PositionAt d i n (n + 1)
+    pub position-new : r ≡ i + 1 → PositionAt d i n (Some (n + 1))
     position-new t = go (has (arrival_at d i).number (before d i)) refl
       where
-        go : (b : Bool) → has (arrival_at d i).number (before d i) ≡ b → PositionAt d i n (n + 1)
+        go : (b : Bool) → has (arrival_at d i).number (before d i) ≡ b → PositionAt d i n (Some (n + 1))
         go true e = absurd (omega (arith, copy-recorded e, is, t))
         go false e =
             let more : firsts (before d (i + 1)) ≡ firsts (before d i) ++ (arrival_at d i ∷ []) =
             ap firsts (before_more d layout i h) ∙ firsts-first (before d i) (arrival_at d i) e in
             let one = length-append (firsts (before d i)) (arrival_at d i ∷ []) in
             record {
-              is = known_some (n + 1) (λ z. omega (arith, z)) ∙ ap (λ (n : ℕ). some (n + 1)) many ∙ sym (new-place d layout i h e);
-              few = next-few n many;
-              next = λ z. refl;
-              after = rw (ne_eqb (n + 1) 0 (λ z. omega (arith, z))) (omega (arith, many, ap length more, one));
+              is = ap (λ (n : ℕ). some (n + 1)) many ∙ sym (new-place d layout i h e);
+              next = (refl, next-few n many);
+              after = omega (arith, many, ap length more, one);
             }
 
     -- any other arrival has none
-    pub position-copy : (r ≡ i + 1 → ⊥) → PositionAt d i n 0
+    pub position-copy : (r ≡ i + 1 → ⊥) → PositionAt d i n None
     unfolding position_of
     position-copy t = go (has (arrival_at d i).number (before d i)) refl
       where
-        go : (b : Bool) → has (arrival_at d i).number (before d i) ≡ b → PositionAt d i n 0
+        go : (b : Bool) → has (arrival_at d i).number (before d i) ≡ b → PositionAt d i n None
         go true e =
             record {
               is = sym (ap position_of (answer-duplicate (size_of d) (before d i) (arrival_at d i) e));
-              few = omega arith;
-              next = λ z. absurd (z refl);
+              next = tt;
               after = many ∙ sym (ap length (ap firsts (before_more d layout i h) ∙ firsts-duplicate (before d i) (arrival_at d i) e));
             }
         go false e = absurd (t (is ∙ new-recorded e))
@@ -126,41 +124,40 @@ recorded-all d layout records h r =
 -- ---- the last discontinuity
 
 -- before the next position
-pub last-prior : (discoverers : List ℕ) (n p last : ℕ) → last ≡ last_to discoverers n → p ≡ n + 1 → last ≡ last_to discoverers (p - 1)
-last-prior discoverers n p last e k = let q : n ≡ p - 1 = omega arith in e ∙ ap (last_to discoverers) q
+pub last-prior : (discoverers : List ℕ) (n p : ℕ) (last : Found ℕ) → found last ≡ known (last_to discoverers n) → p ≡ n + 1
+    → found last ≡ known (last_to discoverers (p - 1))
+last-prior discoverers n p last e k = let q : n ≡ p - 1 = omega arith in e ∙ ap (λ (n : ℕ). known (last_to discoverers n)) q
+
+-- so it is before any position, if there is one
+pub last-listed : (discoverers : List ℕ) (n : ℕ) (last position : Found ℕ) → IfSome position (λ p. (p ≡ n + 1) × (p ≤ sent_most))
+    → found last ≡ known (last_to discoverers n)
+    → IfSome position (λ p. (1 ≤ p) × (p ≤ sent_most) × (found last ≡ known (last_to discoverers (p - 1))))
+last-listed discoverers n last None h e = tt
+last-listed discoverers n last (Some p) h e = (omega (arith, h.0), h.1, last-prior discoverers n p last e h.0)
 
 -- it stays where the next position is none
-pub last-stays : (discoverers : List ℕ) (n p last : ℕ) → last ≡ last_to discoverers n → p ≡ n + 1 → get_or discoverers p 0 ≡ 0
-    → last ≡ last_to discoverers p
-last-stays discoverers n p last e k z = last-prior discoverers n p last e k ∙ sym (last-before discoverers p (omega arith) z)
+pub last-stays : (discoverers : List ℕ) (n p : ℕ) (last : Found ℕ) → found last ≡ known (last_to discoverers n) → p ≡ n + 1
+    → get_or discoverers p 0 ≡ 0
+    → found last ≡ known (last_to discoverers p)
+last-stays discoverers n p last e k z =
+    last-prior discoverers n p last e k ∙ ap known (sym (last-before discoverers p (omega arith) z))
 
 -- and else is that position
-pub last-moves : (discoverers : List ℕ) (p : ℕ) → (p ≡ 0 → ⊥) → (get_or discoverers p 0 ≡ 0 → ⊥) → p ≡ last_to discoverers p
-last-moves discoverers p h z = sym (last-here discoverers p (omega (arith, h)) z)
-
--- the first arrivals after a copy
-pub count_same : (n p : ℕ) → p ≡ 0 → n ≡ count_after n p
-count_same n p z = rw (eq-eqb p 0 z)
-
--- and after a first arrival
-pub count_next : (n p : ℕ) → (p ≡ 0 → ⊥) → p ≡ count_after n p
-count_next n p h = rw (ne_eqb p 0 h)
+pub last-moves : (discoverers : List ℕ) (p : ℕ) → 0 < p → (get_or discoverers p 0 ≡ 0 → ⊥) → some p ≡ known (last_to discoverers p)
+last-moves discoverers p low z =
+    sym (ap known (last-here discoverers p low z) ∙ known_some p (λ (e : p ≡ 0). omega arith))
 
 -- ---- gaps as numbers
 
 -- no position has no gap
-pub number-none : (l : List Answer) (p : ℕ) → p ≡ 0 → 0 ≡ gap_number (gap_of l (known p))
+pub number-none : (l : List Answer) → 0 ≡ gap_number (gap_of l none)
 unfolding gap_of
-number-none l p z = rw z
-
--- the gap of a position
-pub number-some : (l : List Answer) (p : ℕ) → (p ≡ 0 → ⊥) → (g : Gap) → g ≡ gap_of l (some p) → gap_number g ≡ gap_number (gap_of l (known p))
-number-some l p h g e = ap gap_number (e ∙ ap (gap_of l) (sym (known_some p h)))
+number-none l = refl
 
 -- the number of each answer among those of all
 number-of-answer : (l : List Answer) (i : ℕ) → get_or (gap_numbers l) i 0 ≡ gap_number (gap_of l (position_of (get_or l i no_answer)))
 unfolding gap_numbers
-number-of-answer l i = get_or-map gap_number (gaps l) i Gap.None ∙ ap gap_number (gap-of-answer l i)
+number-of-answer l i = get_or-map gap_number (gaps l) i None ∙ ap gap_number (gap-of-answer l i)
 
 module _ (d : Decoded) (layout : Layout) (h : FileLayout d layout) where
   -- there is a number for each record
@@ -172,16 +169,16 @@ module _ (d : Decoded) (layout : Layout) (h : FileLayout d layout) where
       ∙ length-answers (size_of d) (sample_arrivals d) ∙ sym (arrivals-laid d layout h)
 
   -- that of record i + 1 by its position
-  pub number_at : (i x p : ℕ) → i < layout.arrivals → x ≡ gap_number (gap_of (answers_of d) (known p)) → known p ≡ position_of (answer_at d i)
+  pub number_at : (i x : ℕ) (o : Option ℕ) → i < layout.arrivals → x ≡ gap_number (gap_of (answers_of d) o) → o ≡ position_of (answer_at d i)
       → x ≡ get_or (gap_numbers (answers_of d)) i 0
-  number_at i x p g e k =
+  number_at i x o g e k =
       let here = answer_at-record d no_answer i (omega (arith, g, arrivals-laid d layout h)) in
       e
       ∙ ap (λ (o : Option ℕ). gap_number (gap_of (answers_of d) o)) (k ∙ ap position_of (sym here))
       ∙ sym (number-of-answer (answers_of d) i)
 
 -- a number that is not 0 is a gap
-number-known : (n : ℕ) → (n ≡ 0 → ⊥) → number_gap n ≡ Gap.Positions n
+number-known : (n : ℕ) → (n ≡ 0 → ⊥) → number_gap n ≡ Some n
 number-known zero h = absurd (h refl)
 number-known (suc n) h = refl
 
@@ -203,7 +200,7 @@ unfolding gap_over
 over-told l p none h = refl
 over-told l p (some q) h = go (earlier (discoverer q l) (discoverer p l))
   where
-    go : (t : Bool) → number_gap (gap_number (cond t (Gap.Positions (p - q)) Gap.None)) ≡ cond t (Gap.Positions (p - q)) Gap.None
+    go : (t : Bool) → number_gap (gap_number (cond t (Some (p - q)) None)) ≡ cond t (Some (p - q)) None
     go true = let k = h q refl in number-known (p - q) (λ z. omega (arith, k, z))
     go false = refl
 
@@ -213,7 +210,7 @@ gap-told l none = refl
 gap-told l (some p) = over-told l p (neighbour l p) (neighbour-below l p)
 
 -- at every record
-told_at : (l : List Answer) (asked : ℕ) → number_gap (at_record 0 (gap_numbers l) asked) ≡ at_record Gap.None (gaps l) asked
+told_at : (l : List Answer) (asked : ℕ) → number_gap (at_record 0 (gap_numbers l) asked) ≡ at_record None (gaps l) asked
 unfolding at_record
 told_at l zero = refl
 told_at l (suc i) =

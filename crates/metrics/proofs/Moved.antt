@@ -4,6 +4,7 @@
 -- (`figures-same`).
 -- Here l are the arrivals, m the answers, n the counts, s the sample, and in `figures-same` i is the point of a path from the one to the
 -- other. Assumes nothing.
+use Rattle.std.specs.Prelude.{None}
 use Prim.Native.Nat.{ℕ, ◌+◌}
 use mathlib.Core.Path.{◌≡◌, refl, sym, ap, subst, ◌∙◌}
 use mathlib.Core.Bool.{cond}
@@ -12,13 +13,12 @@ use lib.ListN.{length, length-map}
 use Rattle.octets.specs.Below.{Octets}
 use Rattle.rfc4737.specs.declared.Arrival.{Arrival}
 use Rattle.rfc4737.specs.declared.Answer.{Answer}
-use Rattle.rfc4737.specs.declared.Gap.{Gap}
 use Rattle.rfc4737.specs.declared.Counts.{Counts}
 use Rattle.rfc4737.specs.Extent.{size_in}
 use Rattle.rfc4737.specs.Refusals.{refusal_if, first_refusal, asked_outside, outside}
 use Rattle.rfc4737.specs.Runs as run
 use Rattle.rfc4737.specs.Tally as tallying
-use Rattle.rfc4737.specs.Gaps.{gaps}
+use Rattle.rfc4737.specs.Gaps.{Gap, gaps}
 use Rattle.rfc4737.specs.Ratios as ratio
 use Rattle.rfc4737.specs.Moved.{moved_one, moved}
 use Rattle.rfc4737.proofs.Moved.{answers-moved}
@@ -86,7 +86,7 @@ module _ (c : ℕ) where
           gap = λ asked i.
               record {
                 refusal = first_refusal (refusal_if (outside 1 (n i) asked) asked_outside ∷ []);
-                gap = at_record Gap.None (gaps (a i)) asked;
+                gap = at_record None (gaps (a i)) asked;
               };
           counts = λ i. record { refusal = 0; counts = run.counts (a i) };
           tally = λ i. record { refusal = 0; tally = tallying.tally (a i) };

@@ -14,12 +14,13 @@ use mathlib.Core.Option.{Option, none, some, some-ne-none}
 use Prim.Native.Nat.{ℕ, zero, suc, ◌+◌, ◌-◌, ◌≤◌}
 use native.Mathlib.Omega.{arith}
 use lib.Dec.{eqb}
-use lib.ListN.{length, get_or, set, replicate, length-set}
+use lib.ListN.{length, get_or, set, replicate, length-set, take}
 use lib.Seq.{take_all, get_or-set_same, get_or-set_other}
 use borrow.Author.Tests.{eqb-true, eqb-false}
 use Rattle.rfc4737.specs.declared.Answer.{Answer}
 use Rattle.rfc4737.specs.Arrivals.{firsts, first_record, record_from, each, each_after, count}
 use Rattle.rfc4737.specs.Order.{next_exp}
+use Rattle.rfc4737.specs.Extent.{byte_offset}
 use Rattle.rfc4737.specs.Answer.{answers}
 use Rattle.rfc4737.specs.Runs.{is_duplicate, is_in_order_answer, is_reordered, arrived, runs, runs_after, counts}
 use Rattle.rfc4737.specs.Tally.{tally, tally_after, tally_places}
@@ -37,7 +38,7 @@ use Rattle.metrics.specs.Private.Steps.{DiscoverersAt, known}
 use Rattle.metrics.specs.declared.engine.kind.Class.{Class}
 use Rattle.metrics.specs.declared.engine.seen.State.{State}
 use Rattle.metrics.proofs.TablesFollow.{arrivals-laid, before_more, before-length}
-use Rattle.metrics.proofs.AnswersByClass.{late-place}
+use Rattle.metrics.proofs.AnswersByClass.{late-place, late-alone}
 
 -- ---- before any arrival
 
@@ -82,6 +83,15 @@ module _ (d : Decoded) (layout : Layout) (i : ℕ) (h : HasRecord d layout i) wh
   inside-told numbers records skipped state f (Class.Reordered at) t =
       let p = late-place d layout i at state.count h t numbers records f.numbered f.recorded in (p.0, p.1)
 
+  -- before the position of that discontinuity no packet is greater
+  pub alone-told : (numbers records skipped : List ℕ) (state : State) → EngineTables (before d i) numbers records skipped state
+      → (k : Class) → ClassOf state.count k (answer_at d i)
+      → IfLate (λ (at : ℕ). byte_offset (size_of d) (take (at - 1) (firsts (before d i))) (arrival_at d i).number ≡ 0) k
+  alone-told numbers records skipped state f (Class.Duplicate first) t = tt
+  alone-told numbers records skipped state f (Class.InOrder jump) t = tt
+  alone-told numbers records skipped state f (Class.Reordered at) t =
+      late-alone d layout i at state.count h t numbers records f.numbered f.recorded
+
 -- ---- counts
 
 -- the counts after the next answer
@@ -106,6 +116,13 @@ pub tally-next : (d : Decoded) (layout : Layout) (i : ℕ) → HasRecord d layou
 tally-next d layout i h t e =
     ap (λ (t : List ℕ). tally_after t (answer_at d i)) e ∙ sym (ap tally (answers_next d layout i h)
     ∙ tally-more (answers_to d i) (answer_at d i))
+
+-- an answer that is not reordered leaves it
+pub tally-other : (t : List ℕ) (a : Answer) → is_reordered a ≡ false → t ≡ tally_after t a
+unfolding tally_after
+tally-other t (Answer.Duplicate f) e = refl
+tally-other t (Answer.InOrder f) e = refl
+tally-other t (Answer.Reordered f) e = absurd (true≢false e)
 
 -- of no answers all counts of the tally are 0
 pub tally-none : tally [] ≡ replicate tally_places 0

@@ -26,7 +26,7 @@ use Rattle.sums.specs.Tree.{Added, sum_to}
 use Rattle.sums.proofs.Summed.{summed-none, summed-more, sum-summed}
 use Rattle.sample.specs.Places.{no_arrival}
 use Rattle.metrics.specs.Private.Engine.{SizeTree}
-use Rattle.metrics.specs.declared.engine.byte_offset.Totals.{Totals}
+use Rattle.metrics.specs.declared.engine.byte_offset.PairTree.{PairTree}
 
 -- a packet is above number 2k if its pair is above k
 pair-above : (k s : ℕ) → ltb (k * 2) s ≡ ltb k ((s + 1) / 2)
@@ -65,26 +65,26 @@ module _ (size : ℕ → ℕ) (s : ℕ) (low : 1 ≤ s) where
       go false e = ap (byte_offset size fs) (omega (arith, eqb-false (s % 2) 0 e)) ∙ offset-before fs new
 
 -- a tree of no first arrivals
-pub size-tree-none : (size : ℕ → ℕ) (fs : List Arrival) → SizeTree size fs (replicate 2049 0) (record { filled = 0; total = 0 })
+pub size-tree-none : (size : ℕ → ℕ) (fs : List Arrival) → SizeTree size fs (record { sums = replicate 2049 0; filled = 0; total = 0 })
 unfolding byte_offset
 size-tree-none size fs =
     record { places = refl; some = omega arith; summed = summed-none _ 2049 (λ i. refl); whole = refl }
 
-module _ (size : ℕ → ℕ) (small : (s : ℕ) → size s ≤ 65535) (fs : List Arrival) (few : length fs ≤ sent_most) (tree : List ℕ) where
+module _ (size : ℕ → ℕ) (small : (s : ℕ) → size s ≤ 65535) (fs : List Arrival) (few : length fs ≤ sent_most) where
   -- the sizes of some first arrivals together are small
   sizes-few : (p s : ℕ) → p ≤ length fs → byte_offset size (take p fs) s ≤ 65535 * p
   sizes-few p s h = omega (arith, offset-le size 65535 small (take p fs) s, length-take-le p fs h)
 
   -- of those in the tree
-  pub total-small : (t : Totals) → SizeTree size fs tree t → t.total ≤ 65535 * t.filled
+  pub total-small : (t : PairTree) → SizeTree size fs t → t.total ≤ 65535 * t.filled
   total-small t k = omega (arith, k.whole, sizes-few t.filled 0 k.some)
 
   -- the tree after the next first arrival
-  pub size-tree-more : (p number value total : ℕ) (tree' : List ℕ) → p < length fs → number ≡ (get_or fs p no_arrival).number → 1 ≤ number
+  pub size-tree-more : (p number value total : ℕ) (tree tree' : List ℕ) → p < length fs → number ≡ (get_or fs p no_arrival).number → 1 ≤ number
       → value ≡ size number
-      → SizeTree size fs tree (record { filled = p; total = total }) → Added ((number + 1) / 2) value tree tree'
-      → SizeTree size fs tree' (record { filled = p + 1; total = total + value })
-  size-tree-more p number value total tree' inside is low own t added =
+      → SizeTree size fs (record { sums = tree; filled = p; total = total }) → Added ((number + 1) / 2) value tree tree'
+      → SizeTree size fs (record { sums = tree'; filled = p + 1; total = total + value })
+  size-tree-more p number value total tree tree' inside is low own t added =
       record {
         places = added.places ∙ t.places;
         some = omega arith;
@@ -99,15 +99,15 @@ module _ (size : ℕ → ℕ) (small : (s : ℕ) → size s ≤ 65535) (fs : Lis
       more s = rw (own, take_more no_arrival fs p inside, is) (offset-more size (take p fs) s (get_or fs p no_arrival))
 
   -- the sum up to the pair of a packet, and what is above it
-  pub total-sum : (t : Totals) (s : ℕ) → t.filled ≡ length fs → s ≤ sent_most → SizeTree size fs tree t
-      → sum_to tree (s / 2) + byte_offset size fs (s / 2 * 2) ≡ t.total
+  pub total-sum : (t : PairTree) (s : ℕ) → t.filled ≡ length fs → s ≤ sent_most → SizeTree size fs t
+      → sum_to t.sums (s / 2) + byte_offset size fs (s / 2 * 2) ≡ t.total
   total-sum t s all high k =
       let whole : take t.filled fs ≡ fs = take_all t.filled fs (omega arith) in
       let fits : byte_offset size (take t.filled fs) (0 * 2) < 2 ^ 32 = omega (arith, sizes-few t.filled (0 * 2) k.some) in
-      let e = sum-summed _ tree k.summed (s / 2) (omega (arith, k.places)) fits in
+      let e = sum-summed _ t.sums k.summed (s / 2) (omega (arith, k.places)) fits in
       rw whole at (e ∙ sym k.whole)
 
   -- so the total without the sum is the byte offset of a packet that has not arrived
-  pub offset-summed : (t : Totals) (s : ℕ) → t.filled ≡ length fs → 1 ≤ s → s ≤ sent_most → SizeTree size fs tree t → has s fs ≡ false
-      → t.total - sum_to tree (s / 2) ≡ byte_offset size fs s
+  pub offset-summed : (t : PairTree) (s : ℕ) → t.filled ≡ length fs → 1 ≤ s → s ≤ sent_most → SizeTree size fs t → has s fs ≡ false
+      → t.total - sum_to t.sums (s / 2) ≡ byte_offset size fs s
   offset-summed t s all low high k new = omega (arith, total-sum t s all high k, offset-pair size s low fs new)

@@ -28,9 +28,9 @@ use Rattle.sample.specs.Decode.{Decoded}
 use Rattle.metrics.specs.Report.{sample_text}
 use Rattle.metrics.specs.Sample.{answers_of}
 use Rattle.metrics.specs.Records.{arrival_at, answer_at, answers_to, FileLayout, HasRecord}
-use Rattle.metrics.specs.Private.Taken.{Agreed, LineRoom, Taken, lines_to, PassedTo, PassEnded}
-use Rattle.metrics.specs.declared.report.line_agreement.Part.{Part}
-use Rattle.metrics.specs.declared.report.listing_pass.PassResult.{PassResult}
+use Rattle.metrics.specs.Private.Taken.{Part, Agreed, LineRoom, Taken, lines_to, PassedTo, part_of, moved}
+use Rattle.std.specs.Prelude.{Result, Ok, Err}
+use Rattle.std.specs.Result.{result_unwrap_or}
 use Rattle.metrics.proofs.OneArrivalMore.{answers-end}
 use Rattle.metrics.proofs.Common.{common-le, line_read}
 use Rattle.metrics.proofs.Listed.{lines_start, lines_next, lines_end, Rest, lines_rest}
@@ -133,36 +133,47 @@ module _ {comparing : Bool} {text : List ℕ} where
         places = t.places ∙ s.places;
       }
 
+-- a result for lines after others has the octets of both
+pub part-moved : (at : ℕ) (r : Result ℕ ℕ) → part_of (moved at r) ≡ record { octets = at + (part_of r).octets; whole = (part_of r).whole }
+part-moved at (Ok octets) = refl
+part-moved at (Err octets) = refl
+
+-- where all lines are taken the result is their length
+pub whole-part : (r : Result ℕ ℕ) (n : ℕ) → part_of r ≡ record { octets = n; whole = true } → result_unwrap_or r 0 ≡ n
+whole-part (Ok octets) n e = ap (λ (p : Part). p.octets) e
+whole-part (Err octets) n e = absurd (true≢false (sym (ap (λ (p : Part). p.whole) e)))
+
 -- ---- a record's line
 
 module _ (d : Decoded) (layout : Layout) (text : List ℕ) (comparing : Bool) {i at number : ℕ} {answer : Answer} {old new newer : List ℕ}
-    {p : Part}
-    (h : HasRecord d layout i) (s : PassedTo d layout text comparing i at old new) (is : number ≡ (arrival_at d i).number)
+    (r : Result ℕ ℕ) (h : HasRecord d layout i) (s : PassedTo d layout text comparing i at old new) (is : number ≡ (arrival_at d i).number)
     (says : answer ≡ answer_at d i)
-    (t : Taken comparing (record_line (i + 1) number answer) text at new newer p) where
+    (t : Taken comparing (record_line (i + 1) number answer) text at new newer (part_of r)) where
   -- the listing up to record i + 1
-  pub line-more : Taken comparing (lines_to d layout (i + 1)) text 0 old newer (record { octets = at + p.octets; whole = p.whole })
+  pub line-more : Taken comparing (lines_to d layout (i + 1)) text 0 old newer
+      (record { octets = at + (part_of r).octets; whole = (part_of r).whole })
   line-more = rw (lines_next d layout i h, ← is, ← says) (taken_more s t)
 
   -- after a line that is written or agrees
-  pub passed-next : p.whole ≡ true → PassedTo d layout text comparing (i + 1) (at + p.octets) old newer
-  passed-next w = rw w at line-more
+  pub passed-next : (n : ℕ) → moved at r ≡ Ok n → PassedTo d layout text comparing (i + 1) n old newer
+  passed-next n e =
+      let k : Taken comparing (lines_to d layout (i + 1)) text 0 old newer (part_of (moved at r)) = rw (part-moved at r) line-more in
+      rw e at k
 
   -- at one that differs the pass ends
-  pub passed-stop : (c : Counts) → p.whole ≡ false
-      → PassEnded d layout text comparing old newer (record { part = record { octets = at + p.octets; whole = p.whole }; counts = c })
-  passed-stop c w =
-      let r = lines_rest d layout h.file (layout.arrivals - (i + 1)) (i + 1) (omega (arith, h.inside)) in
-      record { all = λ v. absurd (true≢false (sym v ∙ w)); differs = λ v. rw r.is (taken-stop r.rest line-more w) }
+  pub passed-stop : (n : ℕ) → moved at r ≡ Err n → Taken comparing (sample_text d) text 0 old newer (record { octets = n; whole = false })
+  passed-stop n e =
+      let q = lines_rest d layout h.file (layout.arrivals - (i + 1)) (i + 1) (omega (arith, h.inside)) in
+      let k : Taken comparing (lines_to d layout (i + 1)) text 0 old newer (part_of (moved at r)) = rw (part-moved at r) line-more in
+      rw q.is (taken-stop q.rest (rw e at k) refl)
 
 -- after the last record
 pub passed-all : (d : Decoded) (layout : Layout) (text : List ℕ) (comparing : Bool) {i at : ℕ} {old new : List ℕ} {c : Counts}
     → FileLayout d layout
     → i ≤ layout.arrivals → layout.arrivals ≤ i → PassedTo d layout text comparing i at old new → c ≡ counts (answers_to d i)
-    → PassEnded d layout text comparing old new (record { part = record { octets = at; whole = true }; counts = c })
+    → PassedTo d layout text comparing layout.arrivals at old new × (c ≡ counts (answers_of d))
 passed-all d layout text comparing {i} h most all s e =
-    let last : i ≡ layout.arrivals = omega arith in
-    record { all = λ v. (rw last at s, e ∙ ap counts (answers-end d layout i h all)); differs = λ v. absurd (true≢false v) }
+    let last : i ≡ layout.arrivals = omega arith in (rw last at s, e ∙ ap counts (answers-end d layout i h all))
 
 -- ---- the first line and the last
 
@@ -203,9 +214,9 @@ module _ (d : Decoded) (layout : Layout) (laid : FileLayout d layout) (text : Li
   first-differs w = rw (rest.is, lines_start d layout) (taken-stop rest.rest t w)
 
   -- where a record's line differs
-  pub record-differs : {new : List ℕ} (r : PassResult) → PassEnded d layout text comparing start new r → r.part.whole ≡ false
-      → Taken comparing (sample_text d) text 0 old new r.part
-  record-differs r s w = taken-over header-le t (s.differs w)
+  pub record-differs : {new : List ℕ} (r : Part) → Taken comparing (sample_text d) text 0 start new r
+      → Taken comparing (sample_text d) text 0 old new r
+  record-differs r s = taken-over header-le t s
 
   -- after the last line
   pub last_taken : {at : ℕ} {new newer : List ℕ} {c : Counts} {q : Part} → PassedTo d layout text comparing layout.arrivals at start new

@@ -6,10 +6,11 @@
 -- have no fewer first arrivals (`firsts-grow`, `position-le`), and the gap is that of this position (`gap-placed`).
 -- Here d is the decoded file, i the index of a record from 0 and asked its number from 1, n that of a degree, r the refusal found, e that
 -- it is the one that applies, z that it is 0, l a list with an element for each record, and p a position. Assumes nothing.
+use Rattle.std.specs.Prelude.{None}
 use mathlib.Core.Path.{◌≡◌, refl, sym, ap, ap₂, ◌∙◌}
 use mathlib.Core.Bool.{Bool, true, false, cond}
 use mathlib.Core.List.{List, [], ◌∷◌, ◌++◌, append-nil, append_assoc}
-use mathlib.Core.Option.{some, some-ne-none}
+use mathlib.Core.Option.{none, some, some-ne-none}
 use Prim.Native.Nat.{ℕ, zero, suc, ◌+◌, ◌-◌, ◌≤◌, ◌<◌}
 use native.Mathlib.Omega.{arith}
 use lib.Dec.{leb}
@@ -17,14 +18,13 @@ use lib.ListN.{length, take, drop, get_or, take-append-drop, length-append, get_
 use borrow.Author.Tests.{leb-true, leb-false}
 use Rattle.rfc4737.specs.declared.Arrival.{Arrival}
 use Rattle.rfc4737.specs.declared.Answer.{Answer}
-use Rattle.rfc4737.specs.declared.Gap.{Gap}
-use Rattle.rfc4737.specs.Refusals.{first_refusal, refusal_if, outside, asked_outside}
+use Rattle.rfc4737.specs.Refusals.{refusal_if, outside, asked_outside}
 use Rattle.rfc4737.specs.Arrivals.{count, has, with_arrival, firsts, each, each_after}
 use Rattle.rfc4737.specs.Order.{is_in_order}
 use Rattle.rfc4737.specs.Extent.{discontinuity}
 use Rattle.rfc4737.specs.Answer.{in_order_answer, reordered_answer, first_answer, answer_to, answers}
 use Rattle.rfc4737.specs.Runs.{arrived}
-use Rattle.rfc4737.specs.Gaps.{position_of, gap_of, gaps}
+use Rattle.rfc4737.specs.Gaps.{Gap, position_of, gap_of, gaps}
 use Rattle.rfc4737.specs.Ratios.{n_reordered}
 use Rattle.rfc4737.proofs.Due.{first-none, first_one, case-none, between, not-outside}
 use Rattle.rfc4737.proofs.Arrivals.{firsts_more, with-duplicate, with_first, firsts-first, length-firsts}
@@ -36,12 +36,10 @@ use Rattle.metrics.specs.Sample.{size_of, sample_arrivals, answers_of}
 use Rattle.sample.specs.Places.{no_arrival}
 use Rattle.metrics.specs.Records.{arrival_at, before, answer_at, FileLayout, HasRecord}
 use Rattle.metrics.specs.Figures.{at_record, asked_refusal, record_refusal, degree_answers, record_answer, record_gap, degree_counts, degree_most}
-use Rattle.metrics.specs.Private.Steps.{known}
 use Rattle.metrics.specs.declared.RecordAnswer.{RecordAnswer}
 use Rattle.metrics.specs.declared.RecordGap.{RecordGap}
 use Rattle.metrics.specs.declared.DegreeCounts.{DegreeCounts}
 use Rattle.metrics.proofs.TablesFollow.{arrivals-laid, before_more}
-use Rattle.metrics.proofs.OneArrivalMore.{known_some}
 
 -- ---- refusals
 
@@ -115,7 +113,7 @@ abbrev pub no_answer : Answer
 no_answer = Answer.Duplicate (record { first = 0 })
 
 -- the gap of each answer among those of all
-pub gap-of-answer : (l : List Answer) (i : ℕ) → get_or (gaps l) i Gap.None ≡ gap_of l (position_of (get_or l i no_answer))
+pub gap-of-answer : (l : List Answer) (i : ℕ) → get_or (gaps l) i None ≡ gap_of l (position_of (get_or l i no_answer))
 unfolding gaps gap_of position_of
 gap-of-answer l i = get_or-map (λ (a : Answer). gap_of l (position_of a)) l i no_answer
 
@@ -132,8 +130,8 @@ module _ (d : Decoded) (asked : ℕ) where
   gaps-length = length-map (answers_of d) _ ∙ length-answers (size_of d) (sample_arrivals d)
 
   -- and no gap
-  gap-refused : (record_refusal d asked ≡ 0 → ⊥) → at_record Gap.None (gaps (answers_of d)) asked ≡ Gap.None
-  gap-refused h = at-outside Gap.None (gaps (answers_of d)) asked (λ low high. asked-outside d asked h low (omega (arith, gaps-length)))
+  gap-refused : (record_refusal d asked ≡ 0 → ⊥) → at_record None (gaps (answers_of d)) asked ≡ None
+  gap-refused h = at-outside None (gaps (answers_of d)) asked (λ low high. asked-outside d asked h low (omega (arith, gaps-length)))
 
   module _ (e : record_refusal d asked ≡ 0) where
     -- one that is not has those of a record
@@ -146,9 +144,9 @@ module _ (d : Decoded) (asked : ℕ) where
         at-inside other (answers_of d) asked record-inside.0 ∙ answer_at-record d other (asked - 1) (omega (arith, record-inside))
 
     -- and its gap
-    pub gap-known : at_record Gap.None (gaps (answers_of d)) asked ≡ gap_of (answers_of d) (position_of (answer_at d (asked - 1)))
+    pub gap-known : at_record None (gaps (answers_of d)) asked ≡ gap_of (answers_of d) (position_of (answer_at d (asked - 1)))
     gap-known =
-        at-inside Gap.None (gaps (answers_of d)) asked record-inside.0
+        at-inside None (gaps (answers_of d)) asked record-inside.0
         ∙ gap-of-answer (answers_of d) (asked - 1)
         ∙ ap (λ (a : Answer). gap_of (answers_of d) (position_of a)) (answer_at-record d no_answer (asked - 1) (omega (arith, record-inside)))
 
@@ -182,22 +180,22 @@ module _ (d : Decoded) (layout : Layout) (i : ℕ) (h : HasRecord d layout i) wh
   pub new-place : has (arrival_at d i).number (before d i) ≡ false → position_of (answer_at d i) ≡ some (length (firsts (before d i)) + 1)
   new-place e = rw (answer-first (size_of d) (before d i) (arrival_at d i) e) (first-place (size_of d) (firsts (before d i)) (arrival_at d i))
 
-  -- every position is at most L
-  position-le : (p : ℕ) → position_of (answer_at d i) ≡ some p → p ≤ arrived (answers_of d)
+  -- every position is from 1 to L
+  position-le : (p : ℕ) → position_of (answer_at d i) ≡ some p → (1 ≤ p) × (p ≤ arrived (answers_of d))
   unfolding position_of
   position-le p is = rw (arrived-answers (size_of d) (sample_arrivals d)) (go (has (arrival_at d i).number (before d i)) refl)
     where
       grown : length (firsts (before d (i + 1))) ≤ length (firsts (sample_arrivals d))
       grown = rw (take-append-drop (i + 1) (sample_arrivals d)) at (firsts-grow (before d (i + 1)) (drop (i + 1) (sample_arrivals d)))
 
-      go : (t : Bool) → has (arrival_at d i).number (before d i) ≡ t → p ≤ length (firsts (sample_arrivals d))
+      go : (t : Bool) → has (arrival_at d i).number (before d i) ≡ t → (1 ≤ p) × (p ≤ length (firsts (sample_arrivals d)))
       go true e = absurd (some-ne-none p (sym is ∙ ap position_of (answer-duplicate (size_of d) (before d i) (arrival_at d i) e)))
       go false e =
           let more : firsts (before d (i + 1)) ≡ firsts (before d i) ++ (arrival_at d i ∷ []) =
           ap firsts (before_more d layout i h) ∙ firsts-first (before d i) (arrival_at d i) e in
           let both : some p ≡ some (length (firsts (before d i)) + 1) = sym is ∙ new-place e in
           let here : p ≡ length (firsts (before d i)) + 1 = cc in
-          omega (arith, grown, ap length more, length-append (firsts (before d i)) (arrival_at d i ∷ []), here)
+          (omega (arith, here), omega (arith, grown, ap length more, length-append (firsts (before d i)) (arrival_at d i ∷ []), here))
 
   -- and L at most 4,096
   arrived-le : arrived (answers_of d) ≤ sent_most
@@ -212,17 +210,10 @@ module _ (d : Decoded) (layout : Layout) (i : ℕ) (h : HasRecord d layout i) wh
 
 -- ---- the calls' answers
 
--- the refusal that is found by the layout
-pub laid-refusal : (d : Decoded) (layout : Layout) → FileLayout d layout → (r low high asked : ℕ)
-    → r ≡ first_refusal (layout.refusal ∷ refusal_if (outside low high asked) asked_outside ∷ []) → r ≡ asked_refusal d low high asked
-laid-refusal d layout h r low high asked e =
-    e ∙ ap (λ (layout : Layout). first_refusal (layout.refusal ∷ refusal_if (outside low high asked) asked_outside ∷ [])) h.laid
-
--- the same of a record
-pub laid-record : (d : Decoded) (layout : Layout) → FileLayout d layout → (r asked : ℕ)
-    → r ≡ first_refusal (layout.refusal ∷ refusal_if (outside 1 layout.arrivals asked) asked_outside ∷ []) → r ≡ record_refusal d asked
-laid-record d layout h r asked e =
-    laid-refusal d layout h r 1 layout.arrivals asked e ∙ ap (λ (n : ℕ). asked_refusal d 1 n asked) (arrivals-laid d layout h)
+-- a file of this layout has as many records
+pub asked-record : (d : Decoded) (layout : Layout) → FileLayout d layout → (asked : ℕ)
+    → asked_refusal d 1 layout.arrivals asked ≡ record_refusal d asked
+asked-record d layout h asked = ap (λ (n : ℕ). asked_refusal d 1 n asked) (arrivals-laid d layout h)
 
 -- a refusal and an answer
 abbrev answer-with : ℕ → Answer → RecordAnswer
@@ -248,7 +239,7 @@ module _ (d : Decoded) (asked r : ℕ) (e : r ≡ record_refusal d asked) where
   answered z a k = ap₂ answer-with e (k ∙ sym (answer-known d asked (sym e ∙ z) _))
 
   -- a gap with a refusal
-  pub gap-answered-refused : (r ≡ 0 → ⊥) → gap-with r Gap.None ≡ record_gap d asked
+  pub gap-answered-refused : (r ≡ 0 → ⊥) → gap-with r None ≡ record_gap d asked
   unfolding record_gap
   gap-answered-refused h = ap₂ gap-with e (sym (gap-refused d asked (λ z. h (e ∙ z))))
 
@@ -271,30 +262,32 @@ module _ (d : Decoded) (n r : ℕ) (e : r ≡ asked_refusal d 1 degree_most n) w
 
 -- ---- the gap of a record, by its position
 
-module _ (d : Decoded) (layout : Layout) (h : FileLayout d layout) (asked r : ℕ) (e : r ≡ record_refusal d asked) (z : r ≡ 0) where
+module _ (d : Decoded) (layout : Layout) (h : FileLayout d layout) (asked : ℕ) (z : asked_refusal d 1 layout.arrivals asked ≡ 0) where
   -- the record asked for is one of the file's
   pub record-laid : (1 ≤ asked) × (asked ≤ layout.arrivals)
-  record-laid = omega (arith, record-inside d asked (sym e ∙ z), arrivals-laid d layout h)
+  record-laid = asked-within d 1 layout.arrivals asked z
 
   -- so it is there
   inside : HasRecord d layout (asked - 1)
   inside = record { file = h; inside = omega (arith, record-laid) }
 
-  module _ (p : ℕ) (is : known p ≡ position_of (answer_at d (asked - 1))) where
-    -- a copy has none
-    pub gap-copy : p ≡ 0 → gap-with r Gap.None ≡ record_gap d asked
-    unfolding gap_of
-    gap-copy s = gap-answered d asked r e z Gap.None (ap (gap_of (answers_of d)) (sym (ap known s) ∙ is))
+  -- the call is not refused
+  pub record-none : 0 ≡ record_refusal d asked
+  record-none = sym z ∙ asked-record d layout h asked
 
-    module _ (s : p ≡ 0 → ⊥) where
-      -- any other arrival has a position
-      at : position_of (answer_at d (asked - 1)) ≡ some p
-      at = sym is ∙ known_some p s
+  -- a copy has none
+  pub gap-copy : none ≡ position_of (answer_at d (asked - 1)) → gap-with 0 None ≡ record_gap d asked
+  unfolding gap_of
+  gap-copy is = gap-answered d asked 0 record-none refl None (ap (gap_of (answers_of d)) is)
 
-      -- which is at most 4,096
-      pub place-few : p ≤ sent_most
-      place-few = omega (arith, position-le d layout (asked - 1) inside p at, arrived-le d layout (asked - 1) inside)
+  -- any other arrival has a position
+  module _ (p : ℕ) (is : some p ≡ position_of (answer_at d (asked - 1))) where
+    -- which is from 1 to 4,096
+    pub place-few : (1 ≤ p) × (p ≤ sent_most)
+    place-few =
+        let k = position-le d layout (asked - 1) inside p (sym is) in
+        (k.0, omega (arith, k.1, arrived-le d layout (asked - 1) inside))
 
-      -- and the gap of that position
-      pub gap-placed : (g : Gap) → g ≡ gap_of (answers_of d) (some p) → gap-with r g ≡ record_gap d asked
-      gap-placed g k = gap-answered d asked r e z g (k ∙ ap (gap_of (answers_of d)) (sym at))
+    -- and the gap of that position
+    pub gap-placed : (g : Gap) → g ≡ gap_of (answers_of d) (some p) → gap-with 0 g ≡ record_gap d asked
+    gap-placed g k = gap-answered d asked 0 record-none refl g (k ∙ ap (gap_of (answers_of d)) is)

@@ -75,7 +75,7 @@ eight l e =
 
 -- ---- rows
 
-row-length : (a : Answer) → length (row_of a) ≡ 8
+pub row-length : (a : Answer) → length (row_of a) ≡ 8
 unfolding row_of
 row-length (Answer.Duplicate d) = refl
 row-length (Answer.InOrder d) = refl

@@ -224,6 +224,10 @@ module _ (l : List Arrival) (a : Arrival) (numbers records skipped : List ℕ) (
 
 -- ---- along a file
 
+-- a record of a checked file
+pub here : {d : Decoded} {layout : Layout} → FileLayout d layout → (i : ℕ) → i < layout.arrivals → HasRecord d layout i
+here h i g = record { file = h; inside = g }
+
 -- a file of this layout has as many arrivals
 pub arrivals-laid : (d : Decoded) (layout : Layout) → FileLayout d layout → layout.arrivals ≡ length (sample_arrivals d)
 arrivals-laid d layout h = ap (λ (layout : Layout). layout.arrivals) h.laid

@@ -1,14 +1,13 @@
 -- What each call returns for a decoded file: a definition of rfc4737 over the answers of its sample. The file's own refusal comes first,
 -- then 9. A refused file has the empty sample, so beside a refusal is the figure of no arrivals: zeros, no gap, an undefined ratio.
 -- Assumes nothing.
-use Rattle.std.specs.Prelude.{ℕ, zero, suc, ◌+◌, ◌^◌, cond, List, [], ◌∷◌, map, length, get_or}
+use Rattle.std.specs.Prelude.{ℕ, zero, suc, ◌+◌, ◌^◌, cond, List, [], ◌∷◌, map, length, get_or, None}
 use Rattle.rfc4737.specs.declared.Answer.{Answer}
-use Rattle.rfc4737.specs.declared.Gap.{Gap}
 use Rattle.rfc4737.specs.declared.Measure.{Measure}
 use Rattle.rfc4737.specs.Refusals.{outside, refusal_if, first_refusal, asked_outside}
 use Rattle.rfc4737.specs.Runs.{arrived, counts}
 use Rattle.rfc4737.specs.Tally.{tally}
-use Rattle.rfc4737.specs.Gaps.{gaps}
+use Rattle.rfc4737.specs.Gaps.{Gap, gaps}
 use Rattle.rfc4737.specs.Ratios.{n_reordered, degree, ratios}
 use Rattle.rfc4737.specs.Needs.{greatest_need, accommodated}
 use Rattle.sample.specs.Decode.{Decoded, decoded_refusal}
@@ -60,7 +59,7 @@ record_answer d asked =
 
 -- the gap of a record; with a refusal none
 unfoldable pub record_gap : Decoded → ℕ → RecordGap
-record_gap d asked = record { refusal = record_refusal d asked; gap = at_record Gap.None (gaps (answers_of d)) asked }
+record_gap d asked = record { refusal = record_refusal d asked; gap = at_record None (gaps (answers_of d)) asked }
 
 -- the counts of a sample
 unfoldable pub sample_counts : Decoded → SampleCounts

@@ -1,9 +1,8 @@
 -- The gap of every record as a number, and what the call that lists them returns. Assumes nothing.
-use Rattle.std.specs.Prelude.{◌≡◌, Bool, List, map, ℕ, zero, suc, ltb, length}
+use Rattle.std.specs.Prelude.{◌≡◌, Bool, List, map, ℕ, zero, suc, ltb, length, None, Some}
 use Rattle.octets.specs.Memory.{over}
 use Rattle.rfc4737.specs.declared.Answer.{Answer}
-use Rattle.rfc4737.specs.declared.Gap.{Gap}
-use Rattle.rfc4737.specs.Gaps.{gaps}
+use Rattle.rfc4737.specs.Gaps.{Gap, gaps}
 use Rattle.sample.specs.declared.Layout.{Layout}
 use Rattle.sample.specs.Decode.{Decoded, layout_of}
 use Rattle.sample.specs.Calls.{unless_short}
@@ -12,13 +11,13 @@ use Rattle.metrics.specs.Figures.{at_record, record_gap}
 
 -- a gap as a number: 0 for none
 abbrev pub gap_number : Gap → ℕ
-gap_number Gap.None = 0
-gap_number (Gap.Positions p) = p
+gap_number None = 0
+gap_number (Some p) = p
 
 -- the gap that a number stands for
 abbrev pub number_gap : ℕ → Gap
-number_gap zero = Gap.None
-number_gap (suc p) = Gap.Positions (suc p)
+number_gap zero = None
+number_gap (suc p) = Some (suc p)
 
 -- the gap of every record of a sample, as a number
 unfoldable pub gap_numbers : List Answer → List ℕ

@@ -9,7 +9,7 @@ ghost use Rattle.rfc4737.specs.Judge.{sent_most, arrivals_most};
 ghost use Rattle.listing.specs.DigitBounds.{CountsWithin};
 ghost use Rattle.sample.specs.Decode.{decode};
 ghost use Rattle.metrics.specs.Sample.{size_of, sample_arrivals, answers_of};
-ghost use Rattle.metrics.specs.Records.{FileLayout, number_places};
+ghost use Rattle.metrics.specs.Records.{number_places};
 ghost use Rattle.metrics.specs.Private.Tables.{Links, ClassOf, IfLate};
 ghost use Rattle.metrics.specs.Private.Steps.{kind_by, reached_by, shares_of, ShareTables};
 
@@ -19,15 +19,14 @@ pub(crate) mod needs;
 pub(crate) mod quotients;
 pub(crate) mod rows;
 
-use crate::engine::input;
-use crate::engine::kind::{Class, class_of};
+use crate::engine::input::CheckedFile;
+use crate::engine::kind::Class;
 use crate::engine::largest_n::largest_by_links;
-use crate::engine::seen::{MAX_FIRST_ARRIVALS, PACKET_TABLE_LEN, note, start_state};
+use crate::engine::seen::{MAX_FIRST_ARRIVALS, PACKET_TABLE_LEN, State, Tables};
 use crate::{TALLY_MOST, TALLY_PLACES};
 use rfc4737::{Counts, Runs};
-use sample::Layout;
 
-// The counts of no arrivals.
+// The counts of no arrivals. They are a struct of C, for which rfc4737 derives no `Default`.
 pub(crate) fn no_counts() -> Counts
     ensures { result ≡ counts [] }
 {
@@ -52,33 +51,27 @@ pub(crate) fn counts_after(c: Counts, class: Class) -> Counts
     let runs = c.runs;
     match class {
         Class::Duplicate(_) => Counts {
-            arrived: c.arrived,
-            reordered: c.reordered,
             duplicates: c.duplicates + 1,
-            inorder: c.inorder,
-            runs,
+            ..c
         },
         Class::InOrder(_) => Counts {
             arrived: c.arrived + 1,
-            reordered: c.reordered,
-            duplicates: c.duplicates,
             inorder: c.inorder + 1,
             runs: Runs {
-                closed: runs.closed,
-                squares: runs.squares,
                 current: runs.current + 1,
+                ..runs
             },
+            ..c
         },
         Class::Reordered(_) => Counts {
             arrived: c.arrived + 1,
             reordered: c.reordered + 1,
-            duplicates: c.duplicates,
-            inorder: c.inorder,
             runs: Runs {
                 closed: runs.closed + 1,
                 squares: runs.squares + runs.current * runs.current,
                 current: 0,
             },
+            ..c
         },
     }
 }
@@ -111,22 +104,18 @@ fn next_after(next: u32, number: u32) -> u32
 }
 
 // The counts of a sample.
-pub(crate) fn counts_of(file: &[u8], layout: Layout) -> Counts
-    requires { FileLayout (decode file.now) layout }
-    ensures { result ≡ counts (answers_of (decode file.now)) }
+pub(crate) fn counts_of(file: &CheckedFile) -> Counts
+    ensures { result ≡ counts (answers_of (decode file.now.file.now)) }
 {
     let mut seen = [false; PACKET_TABLE_LEN];
     let mut next: u32 = 1;
     let mut c = no_counts();
-    let mut i: u32 = 0;
-    while i < layout.arrivals {
-        let number = input::number_of(file, layout, i);
+    for i in 0..file.layout.arrivals {
+        let number = file.number_of(i);
         let class = kind_of(&seen, next, number);
         c = counts_after(c, class);
-        let at = number as usize;
-        seen[at] = true;
+        seen[number as usize] = true;
         next = next_after(next, number);
-        i += 1;
     }
     c
 }
@@ -147,41 +136,25 @@ fn tally_after(tally: &mut [u32; TALLY_PLACES], count: u32, class: Class)
         × IfLate (λ (at : ℕ). (1 ≤ at) × (at ≤ count)) class }
     ensures { (a : Answer) → ClassOf count class a → tally.new ≡ tally_after tally.old a }
 {
-    match class {
-        Class::Duplicate(_) => return,
-        Class::InOrder(_) => return,
-        Class::Reordered(at) => {
-            let place = tally_place(count + 1 - at);
-            tally[place] = tally[place] + 1;
-        }
-    }
+    let Class::Reordered(at) = class else {
+        return;
+    };
+    let place = tally_place(count + 1 - at);
+    tally[place] += 1;
 }
 
 // The extent tally of a sample.
-pub(crate) fn tally_of(file: &[u8], layout: Layout) -> [u32; TALLY_PLACES]
-    requires { FileLayout (decode file.now) layout }
-    ensures { result ≡ tally (answers_of (decode file.now)) }
+pub(crate) fn tally_of(file: &CheckedFile) -> [u32; TALLY_PLACES]
+    ensures { result ≡ tally (answers_of (decode file.now.file.now)) }
 {
-    let mut numbers = [0u16; MAX_FIRST_ARRIVALS];
-    let mut records = [0u16; PACKET_TABLE_LEN];
-    let mut skipped = [0u16; PACKET_TABLE_LEN];
+    let mut tables = Tables::new();
+    let mut state = State::START;
     let mut tally = [0u32; TALLY_PLACES];
-    let mut state = start_state();
-    let mut i: u32 = 0;
-    while i < layout.arrivals {
-        let number = input::number_of(file, layout, i);
-        let class = class_of(&records, &skipped, state.next, number);
+    for i in 0..file.layout.arrivals {
+        let number = file.number_of(i);
+        let class = tables.class_of(state.next, number);
         tally_after(&mut tally, state.count, class);
-        state = note(
-            &mut numbers,
-            &mut records,
-            &mut skipped,
-            i,
-            number,
-            0,
-            state,
-        );
-        i += 1;
+        state = tables.note(i, number, 0, state);
     }
     tally
 }
@@ -224,40 +197,36 @@ fn shares_after(
         → ShareTables low high size l numbers.old links.old shares
         → ShareTables low high size (l ++ (a ∷ [])) numbers.new links.new result }
 {
-    let at = number as usize;
-    if links[at] != 0 {
+    let packet = number as usize;
+    if links[packet] != 0 {
         return shares;
     }
-    let count = shares.whole;
-    let place = count as usize;
+    let place = shares.whole as usize;
     if shares.next <= number {
-        links[at] = 1;
+        links[packet] = 1;
         numbers[place] = number as u16;
         return Shares {
-            whole: count + 1,
-            reordered: shares.reordered,
-            low: shares.low,
-            high: shares.high,
+            whole: shares.whole + 1,
             next: number + 1,
+            ..shares
         };
     }
-    let largest = largest_by_links(numbers, links, 0, count, number);
-    links[at] = (largest + 1) as u16;
+    let largest = largest_by_links(numbers, links, 0, shares.whole, number);
+    links[packet] = (largest + 1) as u16;
     numbers[place] = number as u16;
     Shares {
-        whole: count + 1,
+        whole: shares.whole + 1,
         reordered: shares.reordered + 1,
         low: n_reordered_after(low, largest, shares.low),
         high: n_reordered_after(high, largest, shares.high),
-        next: shares.next,
+        ..shares
     }
 }
 
 // The shares of a sample, in one pass with two tables: the numbers of the first arrivals in order of position; and, by packet number, 1
 // more than its largest n, or 0 if it has not arrived.
-pub(crate) fn shares_of(file: &[u8], layout: Layout, low: u32, high: u32) -> Shares
-    requires { FileLayout (decode file.now) layout }
-    ensures { result ≡ shares_of low high (size_of (decode file.now)) (sample_arrivals (decode file.now)) }
+pub(crate) fn shares_of(file: &CheckedFile, low: u32, high: u32) -> Shares
+    ensures { result ≡ shares_of low high (size_of (decode file.now.file.now)) (sample_arrivals (decode file.now.file.now)) }
 {
     let mut numbers = [0u16; MAX_FIRST_ARRIVALS];
     let mut links = [0u16; PACKET_TABLE_LEN];
@@ -268,11 +237,9 @@ pub(crate) fn shares_of(file: &[u8], layout: Layout, low: u32, high: u32) -> Sha
         high: 0,
         next: 1,
     };
-    let mut i: u32 = 0;
-    while i < layout.arrivals {
-        let number = input::number_of(file, layout, i);
+    for i in 0..file.layout.arrivals {
+        let number = file.number_of(i);
         shares = shares_after(&mut numbers, &mut links, low, high, number, shares);
-        i += 1;
     }
     shares
 }

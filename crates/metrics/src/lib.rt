@@ -22,20 +22,20 @@ mod engine;
 mod figures;
 mod report;
 
-use engine::input::checked_layout;
-use figures::answers::{answer_of, asked_refusal};
+use engine::input::CheckedFile;
+use figures::answers::answer_of;
 use figures::gaps::{gap_of, put_gaps};
-use figures::needs::{greatest_need, needs_of, sum_up};
+use figures::needs::{Sizes, greatest_need, needs_of, sum_up};
 use figures::quotients::{ratio_of, ratios_of};
 use figures::rows::{put_rows, rows_short};
 use figures::{counts_of, shares_of, tally_of};
-use report::compare::{compare_listing, same_text};
-use report::{listing_refusal, write_listing};
+use report::compare::compare_listing;
+use report::{check_room, write_listing};
 use rfc4737::numbering::{
     DUPLICATE, IN_ORDER, REORDERED_AFTER, REORDERED_BEFORE, amount, by_direction,
 };
-use rfc4737::refusal::{NONE, OUTPUT_SHORT};
-use rfc4737::{Answer, Measure};
+use rfc4737::refusal::{NONE, Refusal};
+use rfc4737::{Answer, InOrderFigures, Measure};
 use sample::{Layout, WriteAnswer, refused_layout};
 
 // The greatest extent that a tally counts by itself; all greater ones are counted at index 0.
@@ -50,6 +50,9 @@ const DEGREE_MOST: u32 = 100;
 // How many buffer sizes `accommodated_steps` tries in one pass.
 pub const STEPS: usize = 128;
 
+// In the answers below the refusal stands beside the figures, as a number, and not in place of them: the definitions of specs/Figures and
+// specs/Agreement give both, for C too.
+
 // The answer for a record, and the refusal (0 for none).
 #[derive(Clone, Copy)]
 pub struct RecordAnswer {
@@ -61,7 +64,7 @@ pub struct RecordAnswer {
 #[derive(Clone, Copy)]
 pub struct RecordGap {
     pub refusal: u32,
-    pub gap: rfc4737::Gap,
+    pub gap: Option<u32>,
 }
 
 // The counts of a sample, and the refusal (0 for none).
@@ -149,18 +152,29 @@ pub fn answer(file: &[u8], asked: u32) -> RecordAnswer
     ensures discontinuity { ReorderedHaveDiscontinuity }
     ensures offsets { OffsetsBounded }
 {
-    let layout = checked_layout(file);
-    answer_of(file, layout, asked)
+    match answer_of(&CheckedFile::new(file), asked) {
+        Ok(answer) => RecordAnswer {
+            refusal: NONE,
+            answer,
+        },
+        Err(refusal) => RecordAnswer {
+            refusal,
+            answer: Answer::InOrder(InOrderFigures {
+                position: 0,
+                jump: 0,
+            }),
+        },
+    }
 }
 
 // The counts of a sample: one pass, O(A + K).
 pub fn counts(file: &[u8]) -> SampleCounts
     ensures { result ≡ sample_counts (decode file.now) }
 {
-    let layout = checked_layout(file);
+    let file = CheckedFile::new(file);
     SampleCounts {
-        refusal: layout.refusal,
-        counts: counts_of(file, layout),
+        refusal: file.layout.refusal,
+        counts: counts_of(&file),
     }
 }
 
@@ -168,11 +182,10 @@ pub fn counts(file: &[u8]) -> SampleCounts
 pub fn tally(file: &[u8]) -> SampleTally
     ensures { result ≡ sample_tally (decode file.now) }
 {
-    let layout = checked_layout(file);
-    let tally = tally_of(file, layout);
+    let file = CheckedFile::new(file);
     SampleTally {
-        refusal: layout.refusal,
-        tally,
+        refusal: file.layout.refusal,
+        tally: tally_of(&file),
     }
 }
 
@@ -180,8 +193,10 @@ pub fn tally(file: &[u8]) -> SampleTally
 pub fn gap(file: &[u8], asked: u32) -> RecordGap
     ensures { result ≡ record_gap (decode file.now) asked }
 {
-    let layout = checked_layout(file);
-    gap_of(file, layout, asked)
+    match gap_of(&CheckedFile::new(file), asked) {
+        Ok(gap) => RecordGap { refusal: NONE, gap },
+        Err(refusal) => RecordGap { refusal, gap: None },
+    }
 }
 
 // The two counts of a degree of n-reordering: the n-reordered packets, and the first arrivals. One pass, O(A + K): all searches for a
@@ -189,18 +204,17 @@ pub fn gap(file: &[u8], asked: u32) -> RecordGap
 pub fn n_reordered(file: &[u8], n: u32) -> DegreeCounts
     ensures { result ≡ degree_counts (decode file.now) n }
 {
-    let layout = checked_layout(file);
-    let refusal = asked_refusal(layout.refusal, 1, DEGREE_MOST, n);
-    if refusal != NONE {
+    let file = CheckedFile::new(file);
+    if let Err(refusal) = file.asked(1, DEGREE_MOST, n) {
         return DegreeCounts {
             refusal,
             reordered: 0,
             arrived: 0,
         };
     }
-    let shares = shares_of(file, layout, n, n);
+    let shares = shares_of(&file, n, n);
     DegreeCounts {
-        refusal,
+        refusal: NONE,
         reordered: shares.low,
         arrived: shares.whole,
     }
@@ -221,10 +235,10 @@ pub fn degree(file: &[u8], n: u32) -> SampleDegree
 pub fn ratios(file: &[u8]) -> SampleRatios
     ensures { result ≡ sample_ratios (decode file.now) }
 {
-    let layout = checked_layout(file);
-    let shares = shares_of(file, layout, 1, 3);
+    let file = CheckedFile::new(file);
+    let shares = shares_of(&file, 1, 3);
     SampleRatios {
-        refusal: layout.refusal,
+        refusal: file.layout.refusal,
         ratios: ratios_of(shares.reordered, shares.low, shares.high, shares.whole),
     }
 }
@@ -233,11 +247,15 @@ pub fn ratios(file: &[u8]) -> SampleRatios
 pub fn accommodated(file: &[u8], measure: Measure, size: u64) -> SampleAccommodated
     ensures { result ≡ sample_accommodated (decode file.now) measure size }
 {
-    let layout = checked_layout(file);
+    let file = CheckedFile::new(file);
     let mut counts = [0u32; STEPS];
-    let needs = needs_of(file, layout, measure, size, 0, &mut counts);
+    let sizes = Sizes {
+        low: size,
+        shift: 0,
+    };
+    let needs = needs_of(&file, measure, sizes, &mut counts);
     SampleAccommodated {
-        refusal: layout.refusal,
+        refusal: file.layout.refusal,
         accommodated: counts[0],
         arrived: needs.arrived,
     }
@@ -249,12 +267,12 @@ pub fn accommodated(file: &[u8], measure: Measure, size: u64) -> SampleAccommoda
 pub fn accommodated_steps(file: &[u8], measure: Measure, low: u64, shift: u32) -> SampleSteps
     ensures { result ≡ sample_steps (decode file.now) measure low shift }
 {
-    let layout = checked_layout(file);
+    let file = CheckedFile::new(file);
     let mut counts = [0u32; STEPS];
-    let needs = needs_of(file, layout, measure, low, shift, &mut counts);
+    let needs = needs_of(&file, measure, Sizes { low, shift }, &mut counts);
     sum_up(&mut counts);
     SampleSteps {
-        refusal: layout.refusal,
+        refusal: file.layout.refusal,
         arrived: needs.arrived,
         greatest: needs.greatest,
         counts,
@@ -265,12 +283,12 @@ pub fn accommodated_steps(file: &[u8], measure: Measure, low: u64, shift: u32) -
 pub fn greatest_needs(file: &[u8]) -> SampleNeeds
     ensures { result ≡ sample_needs (decode file.now) }
 {
-    let layout = checked_layout(file);
+    let file = CheckedFile::new(file);
     SampleNeeds {
-        refusal: layout.refusal,
-        packets: greatest_need(file, layout, Measure::Packets),
-        octets: greatest_need(file, layout, Measure::Octets),
-        time: greatest_need(file, layout, Measure::Time),
+        refusal: file.layout.refusal,
+        packets: greatest_need(&file, Measure::Packets),
+        octets: greatest_need(&file, Measure::Octets),
+        time: greatest_need(&file, Measure::Time),
     }
 }
 
@@ -280,14 +298,15 @@ pub fn record_gaps(file: &[u8], gaps: &mut [u32]) -> Layout
     ensures gaps_to { GapsTo (decode file.now) gaps.old result gaps.new }
     ensures tell { GapsTell }
 {
-    let layout = checked_layout(file);
+    let file = CheckedFile::new(file);
+    let layout = file.layout;
     if layout.refusal != NONE {
         return layout;
     }
     if gaps.len() < layout.arrivals as usize {
-        return refused_layout(OUTPUT_SHORT);
+        return refused_layout(Refusal::OutputShort.number());
     }
-    put_gaps(file, layout, gaps);
+    put_gaps(&file, gaps);
     layout
 }
 
@@ -330,14 +349,15 @@ pub fn record_rows(file: &[u8], rows: &mut [u64]) -> Layout
     ensures rows_to { RowsTo (decode file.now) rows.old result rows.new }
     ensures tell { RowsTell }
 {
-    let layout = checked_layout(file);
+    let file = CheckedFile::new(file);
+    let layout = file.layout;
     if layout.refusal != NONE {
         return layout;
     }
     if rows_short(layout.arrivals, rows.len()) {
-        return refused_layout(OUTPUT_SHORT);
+        return refused_layout(Refusal::OutputShort.number());
     }
-    put_rows(file, layout, 0, rows);
+    put_rows(&file, 0, rows);
     layout
 }
 
@@ -346,9 +366,9 @@ pub fn record_rows(file: &[u8], rows: &mut [u64]) -> Layout
 pub fn rows_from(file: &[u8], from: u32, rows: &mut [u64]) -> Layout
     ensures { RowsFromTo (decode file.now) from rows.old result rows.new }
 {
-    let layout = checked_layout(file);
-    put_rows(file, layout, from, rows);
-    layout
+    let file = CheckedFile::new(file);
+    put_rows(&file, from, rows);
+    file.layout
 }
 
 // Writes the listing of a sample at the start of `out`, if `out` has room for it; LISTING_OCTETS octets have room for any. One pass, in
@@ -360,14 +380,13 @@ pub fn listing(file: &[u8], out: &mut [u8]) -> WriteAnswer
     ensures example { ExampleHolds }
     ensures moved { ClockMoved file.now }
 {
-    let layout = checked_layout(file);
-    let refusal = listing_refusal(file, layout, out.len());
-    if refusal != NONE {
+    let file = CheckedFile::new(file);
+    if let Err(refusal) = check_room(&file, out.len()) {
         return WriteAnswer { refusal, length: 0 };
     }
     WriteAnswer {
-        refusal,
-        length: write_listing(file, layout, out),
+        refusal: NONE,
+        length: write_listing(&file, out),
     }
 }
 
@@ -377,18 +396,24 @@ pub fn agreement(file: &[u8], text: &[u8]) -> SampleAgreement
     ensures value { result ≡ sample_agreement (decode file.now) text.now }
     ensures room { length (sample_text (decode file.now)) ≤ listing_octets }
 {
-    let layout = checked_layout(file);
-    if layout.refusal != NONE {
+    let file = CheckedFile::new(file);
+    if file.layout.refusal != NONE {
         return SampleAgreement {
-            refusal: layout.refusal,
+            refusal: file.layout.refusal,
             octets: 0,
             same: false,
         };
     }
-    let part = compare_listing(file, layout, text);
-    SampleAgreement {
-        refusal: NONE,
-        octets: part.octets,
-        same: same_text(part, text.len()),
+    match compare_listing(&file, text) {
+        Ok(octets) => SampleAgreement {
+            refusal: NONE,
+            octets,
+            same: octets == text.len(),
+        },
+        Err(octets) => SampleAgreement {
+            refusal: NONE,
+            octets,
+            same: false,
+        },
     }
 }

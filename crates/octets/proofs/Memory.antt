@@ -115,6 +115,12 @@ module _ {ℓ} {A : Type ℓ} where
       subst (λ (m : ℕ). drop m (splice at xs old) ≡ drop m old) e
       (sym (drop-drop (n - end) end (splice at xs old)) ∙ ap (λ (l : List A). drop (n - end) l) q ∙ drop-drop (n - end) end old)
 
+  -- n elements written to the part from `at` to `at + n`, as `copy_from_slice` does
+  pub splice-written : (at n : ℕ) (xs old : List A) → length xs ≡ n → take at old ++ (xs ++ drop (at + n - at) (drop at old)) ≡ splice at xs old
+  splice-written at n xs old e =
+      let k : at + n - at ≡ n = omega arith in
+      rw (k, drop-drop n at old, e)
+
   -- reading back
   pub splice-part : (at : ℕ) (xs old : List A) → at ≤ length old → part at (length xs) (splice at xs old) ≡ xs
   splice-part at xs old h = rw (splice-tail at xs old h) (take-append_seam xs (drop (at + length xs) old))
@@ -137,14 +143,6 @@ module _ {ℓ} {A : Type ℓ} where
   -- one element stored
   pub splice-set : (at : ℕ) (x : A) (old : List A) → at < length old → set old at x ≡ splice at (x ∷ []) old
   splice-set at x old h = rw add-one (set_split old at x h)
-
-  -- one element stored before those in front of it are written: one write of them and it
-  pub splice-last : (at n : ℕ) (xs old : List A) (x : A) → length xs ≡ n → at + n < length old
-      → splice at xs (set old (at + n) x) ≡ splice at (xs ++ (x ∷ [])) old
-  splice-last at n xs old x e h =
-      let p : at + length xs ≡ at + n = ap (λ (k : ℕ). at + k) e in
-      let q : at + n ≤ length old = omega arith in
-      rw (splice-set (at + n) x old h) (splice-prior at (at + n) xs (x ∷ []) old p q)
 
   -- ---- over
 

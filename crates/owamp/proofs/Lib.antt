@@ -11,3 +11,4 @@ pub mod Accepted
 pub mod RoundTrips
 pub mod Writing
 pub mod Cases
+pub mod Greatest

@@ -1,8 +1,10 @@
 -- What the calls return, and what the caller's lists and octets hold after them. Assumes nothing.
-use Rattle.std.specs.Prelude.{ℕ, ◌-◌, ◌||◌, List, [], ◌∷◌, ◌++◌, ◌≡◌, ltb, length}
+use Rattle.std.specs.Prelude.{ℕ, ◌-◌, ◌||◌, List, [], ◌∷◌, ◌++◌, ◌≡◌, ltb, length, Result, Ok, Err}
 use Rattle.octets.specs.Memory.{over}
 use Rattle.rfc4737.specs.declared.Arrival.{Arrival}
 use Rattle.rfc4737.specs.Judge.{numbers_of, times_of}
+use Rattle.rfc4737.specs.declared.refusal.Refusal.{Refusal}
+use Rattle.rfc4737.specs.Refused.{number_of}
 use Rattle.rfc4737.specs.Refusals.{refusal_if, first_refusal, output_short}
 use Rattle.sample.specs.Format.{item_octets}
 use Rattle.sample.specs.Decode.{decode, sample_of, decoded_refusal}
@@ -27,6 +29,11 @@ import_refusal k numbers times os =
     (records_refusal k os
     ∷ refusal_if (ltb numbers (length (records_arrivals os)) || ltb times (length (records_arrivals os))) output_short
     ∷ [])
+
+-- the importer's answer by its result: the number of arrivals, or the refusal
+abbrev pub import_in : Result ℕ Refusal → RecordsImport
+import_in (Ok arrivals) = record { refusal = 0; arrivals = arrivals }
+import_in (Err refusal) = record { refusal = number_of refusal; arrivals = 0 }
 
 -- the importer's answer, and the two lists after it, which begin with the arrivals; the rest is unchanged. If the import is refused, there
 -- are 0 arrivals and both lists are unchanged

@@ -9,6 +9,7 @@ pub(crate) const FRACTIONS: u64 = 4_294_967_296;
 const MICROS: u64 = 1_000_000;
 
 // Returns a receive time in whole microseconds, rounded down.
+#[tactic(auto, unfolding(crate::specs::Clock::microseconds))]
 pub(crate) fn microseconds(stamp: u64) -> u64
     ensures { result ≡ microseconds stamp }
 {

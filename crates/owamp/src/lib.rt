@@ -8,9 +8,10 @@ ghost use Rattle.owamp.specs.Record.{record_width, records_arrivals};
 ghost use Rattle.merging.specs.Order.{OnlyOne};
 ghost use Rattle.owamp.specs.Order.{time_of};
 ghost use Rattle.owamp.specs.Clock.{RoundedDown};
-ghost use Rattle.owamp.specs.Calls.{RecordsImportedFrom, records_of, arrivals_of_file, RecordsWrittenTo};
+ghost use Rattle.owamp.specs.Calls.{import_in, RecordsImportedFrom, records_of, arrivals_of_file, RecordsWrittenTo};
 ghost use Rattle.owamp.specs.RoundTrip.{AcceptedLists, RecordsReadAgain};
 ghost use Rattle.owamp.specs.Cases.{RecordsReadAsGiven, RecordsWrittenAsGiven};
+ghost use Rattle.sample.specs.Output.{answer_in};
 ghost use Rattle.sample.specs.Decode.{decode, layout_of};
 
 mod clock;
@@ -20,17 +21,54 @@ mod order;
 mod records;
 
 use fill::{fill_arrivals, to_microseconds};
-use judge::{judge_arrivals, judge_seconds, records_refusal};
+use judge::{check_records, judge_seconds};
 use records::{WIDTH, put_packet_record};
-use rfc4737::refusal::OUTPUT_SHORT;
+use rfc4737::refusal::{NONE, Refusal};
 use sample::{Layout, WriteAnswer};
 
-// The answer of `import`: the refusal (0 for none), and the number of arrivals, 0 if refused.
+// The answer of `import`: the refusal (0 for none), and the number of arrivals, 0 if refused. The refusal is a number, as
+// `RecordsImportedFrom` and C have it.
 #[derive(Clone, Copy)]
 #[repr(C)]
 pub struct RecordsImport {
     pub refusal: u32,
     pub arrivals: u32,
+}
+
+impl From<Result<u32, Refusal>> for RecordsImport {
+    ghost from_gives = { λ imported answer. answer ≡ import_in imported };
+
+    // The answer of an importer that found this many arrivals, or none with a refusal.
+    fn from(imported: Result<u32, Refusal>) -> RecordsImport {
+        match imported {
+            Ok(arrivals) => RecordsImport {
+                refusal: NONE,
+                arrivals,
+            },
+            Err(refusal) => RecordsImport {
+                refusal: refusal.number(),
+                arrivals: 0,
+            },
+        }
+    }
+}
+
+// Judges records and fills the start of both lists with their arrivals. Returns their number.
+fn import_records(
+    records: &[u8],
+    k: u32,
+    numbers: &mut [u32],
+    times: &mut [u64],
+) -> Result<u32, Refusal>
+    ensures { RecordsImportedFrom k records.now numbers.old times.old (import_in result) numbers.new times.new }
+{
+    let count = check_records(records, k)?;
+    if numbers.len() < count || times.len() < count {
+        return Err(Refusal::OutputShort);
+    }
+    fill_arrivals(records, numbers, times);
+    to_microseconds(&mut times[..count]);
+    Ok(count as u32)
 }
 
 // Imports the records of K sent packets: fills the start of both lists with the arrivals, sorted by receive time. If the import is refused,
@@ -43,33 +81,7 @@ pub fn import(records: &[u8], k: u32, numbers: &mut [u32], times: &mut [u64]) ->
     ensures accepted { AcceptedLists k records.now }
     ensures cases { RecordsReadAsGiven }
 {
-    let judged = judge_arrivals(records, k as u64);
-    let refusal = records_refusal(records, k, judged);
-    if refusal != 0 {
-        return RecordsImport {
-            refusal,
-            arrivals: 0,
-        };
-    }
-    let count = judged.arrivals;
-    if numbers.len() < count {
-        return RecordsImport {
-            refusal: OUTPUT_SHORT,
-            arrivals: 0,
-        };
-    }
-    if times.len() < count {
-        return RecordsImport {
-            refusal: OUTPUT_SHORT,
-            arrivals: 0,
-        };
-    }
-    fill_arrivals(records, numbers, times);
-    to_microseconds(times, count);
-    RecordsImport {
-        refusal: 0,
-        arrivals: count as u32,
-    }
+    RecordsImport::from(import_records(records, k, numbers, times))
 }
 
 // Writes the arrivals of an accepted file as records to the start of `out`.
@@ -78,16 +90,27 @@ fn write_records(file: &[u8], layout: Layout, out: &mut [u8])
         × (record_width * layout.arrivals ≤ length out.old) }
     ensures { out.new ≡ splice 0 (records_of (arrivals_of_file file.now)) out.old }
 {
-    let count = layout.arrivals;
-    let mut i: u32 = 0;
-    while i < count {
+    for i in 0..layout.arrivals {
         let arrival = sample::arrival(file, layout, i);
         let start = WIDTH * (i as usize);
         let end = start + WIDTH;
         let lent = &mut out[start..end];
         put_packet_record(lent, arrival.number, arrival.time);
-        i += 1;
     }
+}
+
+// Judges the times of an accepted file, and writes its arrivals as records to the start of `out`. Returns the number of octets.
+fn write_accepted(file: &[u8], layout: Layout, out: &mut [u8]) -> Result<u32, Refusal>
+    requires { (layout ≡ layout_of (decode file.now)) × (layout.refusal ≡ 0) }
+    ensures { RecordsWrittenTo file.now out.old (answer_in result) out.new }
+{
+    judge_seconds(file, layout)?;
+    let end = WIDTH * (layout.arrivals as usize);
+    if out.len() < end {
+        return Err(Refusal::OutputShort);
+    }
+    write_records(file, layout, out);
+    Ok(end as u32)
 }
 
 // Writes the arrivals of a sample file as records to the start of `out`. If the call is refused, `out` stays unchanged. Cost: O(A).
@@ -97,26 +120,11 @@ pub fn write(file: &[u8], out: &mut [u8]) -> WriteAnswer
     ensures cases { RecordsWrittenAsGiven }
 {
     let layout = sample::check(file);
-    if layout.refusal != 0 {
+    if layout.refusal != NONE {
         return WriteAnswer {
             refusal: layout.refusal,
             length: 0,
         };
     }
-    let refusal = judge_seconds(file, layout);
-    if refusal != 0 {
-        return WriteAnswer { refusal, length: 0 };
-    }
-    let end = WIDTH * (layout.arrivals as usize);
-    if out.len() < end {
-        return WriteAnswer {
-            refusal: OUTPUT_SHORT,
-            length: 0,
-        };
-    }
-    write_records(file, layout, out);
-    WriteAnswer {
-        refusal: 0,
-        length: end as u32,
-    }
+    WriteAnswer::from(write_accepted(file, layout, out))
 }

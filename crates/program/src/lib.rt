@@ -33,7 +33,8 @@ fn start_of(octets: &[u8], n: usize) -> &[u8]
     &octets[0..n]
 }
 
-// Writes the first n octets. Returns whether there are n octets; else nothing is written.
+// Writes the first n octets. Returns whether there are n octets; else nothing is written. The buffer and the length stand apart, since a
+// call that writes returns the length alone, as C receives it.
 pub fn write_first(rt: &impl Print, octets: &[u8], n: usize) -> io::Result<bool> {
     if octets.len() < n {
         return Ok(false);

@@ -1,5 +1,5 @@
 -- The fit test of the kept places, as the code makes it: three passes over positions, numbers and times, each over all kept values. A pass
--- asks whether each of the first values passes a test: one value more at a time (`pass-none`, `pass-more`, `pass-done`), and exactly if
+-- asks whether each of the first values passes a test: one value more at a time (`pass-none`, `pass-more`), and exactly if
 -- each value does (`pass-at`, `pass_all`, by induction on how many). A kept jump is fit by its position, number and time, so all kept
 -- jumps are fit exactly if the three passes say so (`fit_apart`, `fit-joined`): one that fails refutes it (`positions-unfit`,
 -- `numbers-unfit`), and after two that hold the times decide (`times-decide`).
@@ -36,12 +36,6 @@ module _ (t : ℕ → Bool) (l : List ℕ) where
       → next ≡ first_pass t l (i + 1)
   unfolding first_pass
   pass-more i fit one next f o n = n ∙ rw (f, o, add-one i)
-
-  -- after the last value
-  pub pass-done : (n i : ℕ) (fit : Bool) → i ≤ n → n ≤ i → fit ≡ first_pass t l i → fit ≡ first_pass t l n
-  pass-done n i fit h k f =
-      let e : i ≡ n = omega arith in
-      f ∙ ap (first_pass t l) e
 
   -- if all pass, each does
   pass-at : (n k : ℕ) → first_pass t l n ≡ true → k < n → t (get_or l k 0) ≡ true

@@ -80,6 +80,11 @@ module _ (s : Stream) where
       (both (le-leb _ _ f.closed-high)
       (both (le-leb _ _ f.squares-high) (both (both (le-leb _ _ f.next_low) (le-leb _ _ f.next-high)) refl)))))))
 
+  -- what says whether numbers are fit is the test
+  pub stream-decides : (b : Bool) → (b ≡ true → StreamFit s) → (StreamFit s → b ≡ true) → b ≡ stream_fit s
+  stream-decides true f g = rw (stream-pass (f refl))
+  stream-decides false f g = fails (stream_fit s) stream-facts (λ h. let e : false ≡ true = g h in cc)
+
   -- numbers that are not fit fail the test
   pub stream-false : (StreamFit s → ⊥) → false ≡ stream_fit s
   stream-false h = fails (stream_fit s) stream-facts h

@@ -12,8 +12,11 @@ use lib.ListN.{length, get_or, set, length-set, length-reverse, get_or-append}
 use lib.Seq.{get_or_at, get_or-set_same, get_or-set_other, ext_get_or}
 use borrow.Author.Tests.{ltb-true, ltb-false, eqb-true, eqb-false}
 use Rattle.receiver.specs.Limits.{window_places}
-use Rattle.receiver.specs.Parts.{place_from, oldest_first}
-use Rattle.receiver.specs.Private.{Full}
+use Rattle.rfc4737.specs.Order.{FirstArrival}
+use Rattle.receiver.specs.declared.Places.{Places}
+use Rattle.receiver.specs.Kept.{place_at}
+use Rattle.receiver.specs.Parts.{place_from, oldest_first, in_count}
+use Rattle.receiver.specs.Private.{Full, with_jump_at}
 
 -- a list from its end
 pub get_d_reverse : (l : List ℕ) (i : ℕ) → i < length l → get_or (reverse l) i 0 ≡ get_or l (length l - suc i) 0
@@ -89,6 +92,26 @@ pub same_length : (down : Bool) (l : List ℕ) → length (oldest_first down l) 
 unfolding oldest_first
 same_length true l = length-reverse l
 same_length false l = refl
+
+-- the jump in a place, and a jump stored in one
+module _ (places : Places) (full : Full places.positions places.numbers places.times) (down : Bool) (i p : ℕ) (h : i < window_places)
+    (e : p ≡ place_from down i) where
+  pub jump-read : place_at places p ≡ place_at (in_count down places) i
+  unfolding place_at
+  jump-read =
+      rw (
+        read_at places.positions full.0 down i p h e,
+        read_at places.numbers full.1.0 down i p h e,
+        read_at places.times full.1.1 down i p h e,
+      )
+
+  pub jump-written : (j : FirstArrival) → in_count down (with_jump_at places p j) ≡ with_jump_at (in_count down places) i j
+  jump-written j =
+      rw (
+        write-at places.positions full.0 down i p j.position h e,
+        write-at places.numbers full.1.0 down i p j.number h e,
+        write-at places.times full.1.1 down i p j.time h e,
+      )
 
 pub same_full : (down : Bool) (positions numbers times : List ℕ) → Full positions numbers times
     → Full (oldest_first down positions) (oldest_first down numbers) (oldest_first down times)

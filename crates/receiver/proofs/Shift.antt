@@ -10,10 +10,7 @@ use native.Mathlib.Numerals.{add-one}
 use native.Mathlib.Omega.{arith}
 use lib.ListN.{length, take, drop, get_or, set, length-drop, length-set}
 use lib.Seq.{take-nil, take-suc, drop-cons, length-take-le, set_at, get_or-append-add, get_or-drop, append_snoc}
-use Rattle.receiver.specs.Limits.{window_places}
-use Rattle.receiver.specs.Parts.{place_from, oldest_first}
 use Rattle.receiver.specs.Private.{pushed}
-use Rattle.receiver.proofs.OldestFirst.{read_at, write-at, same_length}
 
 -- the first i places have the value of the next
 abbrev pub shifted : ℕ → List ℕ → List ℕ
@@ -54,6 +51,13 @@ module _ (l : List ℕ) (n : ℕ) (size : n < length l) where
   pub shifted_next : (i : ℕ) (t : List ℕ) → i < n → t ≡ shifted i l → set t i (get_or t (i + 1) 0) ≡ shifted (i + 1) l
   shifted_next i t h e = ap (λ (t : List ℕ). set t i (get_or t (i + 1) 0)) e ∙ shifted-more i h
 
+  -- the same with the value before
+  pub shifted_from : (i v : ℕ) (t : List ℕ) → i < n → t ≡ shifted i l → v ≡ get_or l (i + 1) 0 → set t i v ≡ shifted (i + 1) l
+  shifted_from i v t h e r =
+      ap (set t i) (r ∙ ap (λ (k : ℕ). get_or l k 0) (omega arith) ∙ sym (get_or-drop 1 l i 0) ∙ sym (shifted_at i h)
+      ∙ ap (λ (t : List ℕ). get_or t (i + 1) 0) (sym e))
+      ∙ shifted_next i t h e
+
   -- all have moved, and the place after them is new
   shifted-last : (v : ℕ) → set (shifted n l) n v ≡ drop 1 (take (suc n) l) ++ (v ∷ drop (suc n) l)
   shifted-last v =
@@ -66,35 +70,3 @@ pub pushed-last : (l : List ℕ) (n : ℕ) → n < length l → (kept : ℕ) →
     → set t n v ≡ pushed false kept l v
 unfolding pushed
 pushed-last l n size kept k i t a e v = rw (k, e, a) (shifted-last l n size v)
-
--- ---- from either end
-
--- in the order of the count i places have moved: l₀ are the values before, l those now
-pub record Moved (down : Bool) (l₀ l : List ℕ) (i : ℕ) : Type 0 where
-  pub size : length l ≡ window_places
-  pub held : oldest_first down l ≡ shifted i (oldest_first down l₀)
-
-pub moved_none : (down : Bool) (l : List ℕ) → length l ≡ window_places → Moved down l l 0
-moved_none down l size = record { size = size; held = refl }
-
-module _ (down : Bool) (l₀ : List ℕ) (long : length l₀ ≡ window_places) (n : ℕ) (few : n < window_places) where
-  -- place n is one of the places, oldest first
-  enough : n < length (oldest_first down l₀)
-  enough = omega (arith, same_length down l₀, long)
-
-  -- one more: the value at `from` is set at `to`
-  pub moved_more : (l : List ℕ) (i to from : ℕ) → i < n → to ≡ place_from down i → from ≡ place_from down (i + 1) → Moved down l₀ l i
-      → Moved down l₀ (set l to (get_or l from 0)) (i + 1)
-  moved_more l i to from h a b m = record {
-    size = length-set l to (get_or l from 0) ∙ m.size;
-    held = write-at l m.size down i to (get_or l from 0) (omega arith) a
-        ∙ ap (λ (v : ℕ). set (oldest_first down l) i v) (read_at l m.size down (i + 1) from (omega arith) b)
-        ∙ shifted_next (oldest_first down l₀) n enough i (oldest_first down l) h m.held;
-  }
-
-  -- the last one is new
-  pub moved-last : (l : List ℕ) (i end v : ℕ) → i ≡ n → end ≡ place_from down n → Moved down l₀ l i
-      → oldest_first down (set l end v) ≡ pushed false (n + 1) (oldest_first down l₀) v
-  moved-last l i end v e a m =
-      write-at l m.size down n end v few a ∙ pushed-last (oldest_first down l₀) n enough (n + 1) (add-one n) i (oldest_first down l) e
-      m.held v

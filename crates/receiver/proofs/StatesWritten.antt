@@ -8,6 +8,7 @@
 use Prim.Native.Nat.{ℕ, zero, suc, ◌+◌, ◌-◌, ◌≤◌, ◌<◌}
 use mathlib.Core.Bool.{Bool, true, false, cond}
 use mathlib.Core.List.{List, [], ◌∷◌, ◌++◌, map, map-append}
+use mathlib.Core.Logic.{◌⊎◌, inl, inr}
 use mathlib.Core.Path.{◌≡◌, refl, sym, ap, ap₂, ◌∙◌}
 use native.Mathlib.Omega.{arith}
 use borrow.Author.Tests.{ne_eqb, ltb-true, ltb-false}
@@ -23,13 +24,13 @@ use Rattle.receiver.specs.declared.Stream.{Stream}
 use Rattle.receiver.specs.declared.Places.{Places}
 use Rattle.receiver.specs.declared.Receiver.{Receiver}
 use Rattle.receiver.specs.Limits.{window_places}
+use Rattle.receiver.specs.declared.Lateness.{Lateness}
 use Rattle.receiver.specs.declared.ReceiverAnswer.{ReceiverAnswer}
 use Rattle.receiver.specs.declared.ReceiverAnswer.TheVariants.{Duplicate, InOrder, Exact, Beyond}
 use Rattle.receiver.specs.Marks.{with_mark}
 use Rattle.receiver.specs.Kept.{place_at, places_from, Held, held_of, kept_of, kept_with, laid, with_jump, held_after}
 use Rattle.receiver.specs.Step.{placed_at, duplicate_stream, in_order_stream, reordered_stream, in_order_state, reordered_state, noted_state}
-use Rattle.receiver.specs.Parts.{places_of, whole}
-use Rattle.receiver.specs.Private.{Full, pushed}
+use Rattle.receiver.specs.Private.{Full, pushed, counted_in_order}
 use Rattle.receiver.proofs.HeldJumps.{length-places}
 
 -- ---- the numbers
@@ -44,60 +45,6 @@ kept-length false ks p h =
     let a : length (drop 1 ks) ≡ length ks - 1 = length-drop 1 ks in
     let b : length (drop 1 ks ++ (p ∷ [])) ≡ length (drop 1 ks) + 1 = length-append (drop 1 ks) (p ∷ []) in
     omega arith
-
--- if at most `most` are kept, and that is 1 or more
-module _ (most : ℕ) (least : 1 ≤ most) (h : Held) (size : ℕ) (p : FirstArrival) where
-  abbrev fewer : Bool
-  fewer = ltb h.kept most
-
-  kept-many : length (kept_of h) ≡ h.kept
-  unfolding kept_of
-  kept-many = length-places h.places 0 h.kept
-
-  -- how many are kept after an in-order arrival
-  kept-counted : (held_after fewer h size p).kept ≡ cond (eqb size 0) h.kept (cond fewer (h.kept + 1) h.kept)
-  unfolding held_after with_jump
-  kept-counted = go (eqb size 0)
-    where
-      some-kept : fewer ≡ false → 1 ≤ length (kept_of h)
-      some-kept e = let l : most ≤ h.kept = ltb-false _ _ e in rw kept-many (omega arith)
-
-      go : (b : Bool) → (cond b h (with_jump fewer h p)).kept ≡ cond b h.kept (cond fewer (h.kept + 1) h.kept)
-      go true = refl
-      go false = kept-length fewer (kept_of h) p some-kept ∙ ap (λ (n : ℕ). cond fewer (n + 1) n) kept-many
-
-  -- and the number of the last jump dropped
-  dropped-known : (held_after fewer h size p).dropped
-      ≡ cond (eqb size 0) h.dropped (cond fewer h.dropped (get_or h.places.numbers 0 0))
-  unfolding held_after with_jump place_at
-  dropped-known = go (eqb size 0)
-    where
-      go : (b : Bool) → (cond b h (with_jump fewer h p)).dropped
-          ≡ cond b h.dropped (cond fewer h.dropped (get_or h.places.numbers 0 0))
-      go true = refl
-      go false = refl
-
--- so these are the numbers after an in-order arrival
-pub in-order-numbers : (most : ℕ) → 1 ≤ most → (s : Stream) (positions numbers times : List ℕ) (size number time : ℕ)
-    → ◌≡◌ {A = Stream}
-    (record {
-      sent = s.sent;
-      arrived = s.arrived + 1;
-      duplicates = s.duplicates;
-      inorder = s.inorder + 1;
-      next = next_after s.next number;
-      kept = cond (eqb size 0) s.kept (cond (ltb s.kept most) (s.kept + 1) s.kept);
-      greatest = next_reference s.greatest time;
-      runs = lengthened s.runs;
-      dropped = cond (eqb size 0) s.dropped (cond (ltb s.kept most) s.dropped (get_or numbers 0 0));
-    })
-    (in_order_stream s (held_after (ltb s.kept most) (held_of s (places_of positions numbers times)) size (placed_at s number time)) number
-    time)
-unfolding in_order_stream
-in-order-numbers most least s positions numbers times size number time =
-    let h : Held = held_of s (places_of positions numbers times) in
-    let p : FirstArrival = placed_at s number time in
-    rw (kept-counted most least h size p, dropped-known most least h size p)
 
 -- ---- the places
 
@@ -141,82 +88,76 @@ pushed-over f xs ks p n false e le a b =
     let l : length (drop 1 (take n xs)) + 1 ≡ n = omega arith in
     sym (over-snoc (drop 1 (take n xs)) xs (f p) n l) ∙ ap (λ (l : List ℕ). over l xs) (sym t)
 
+-- the state of the jumps with a new one p, from the parts that the code writes
+module _ (room : Bool) (h : Held) (p : FirstArrival) (few : h.kept ≤ window_places)
+    (full : Full h.places.positions h.places.numbers h.places.times)
+    (free : room ≡ true → h.kept < window_places) (one : room ≡ false → 1 ≤ h.kept) where
+  kept-many : length (kept_of h) ≡ h.kept
+  unfolding kept_of
+  kept-many = length-places h.places 0 h.kept
+
+  counted : length (kept_with room (kept_of h) p) ≡ cond room (h.kept + 1) h.kept
+  counted =
+      kept-length room (kept_of h) p (λ e. rw kept-many (one e))
+      ∙ ap (λ (n : ℕ). cond room (n + 1) n) kept-many
+
+  laid-values : (f : FirstArrival → ℕ) (xs : List ℕ) → length xs ≡ window_places → ((at : ℕ) → f (place_at h.places at) ≡ get_or xs at 0)
+      → pushed room h.kept xs (f p) ≡ over (map f (kept_with room (kept_of h) p)) xs
+  laid-values f xs l read =
+      let le : h.kept ≤ length xs = rw l few in
+      pushed-over f xs (kept_of h) p h.kept room (values-kept f xs h read le) le (λ e. rw l (free e)) one
+
+  pub jump-kept : (dropped : ℕ) (after : Places) → dropped ≡ cond room h.dropped (place_at h.places 0).number
+      → after ≡ record {
+        positions = pushed room h.kept h.places.positions p.position;
+        numbers = pushed room h.kept h.places.numbers p.number;
+        times = pushed room h.kept h.places.times p.time;
+      }
+      → ◌≡◌ {A = Held} (record { kept = cond room (h.kept + 1) h.kept; dropped = dropped; places = after }) (with_jump room h p)
+  unfolding with_jump laid place_at
+  jump-kept dropped after d e =
+      rw (
+        e,
+        d,
+        counted,
+        laid-values (λ (q : FirstArrival). q.position) h.places.positions full.0 (λ at. refl),
+        laid-values (λ (q : FirstArrival). q.number) h.places.numbers full.1.0 (λ at. refl),
+        laid-values (λ (q : FirstArrival). q.time) h.places.times full.1.1 (λ at. refl),
+      )
+
 -- ---- the state
 
-module _ (most : ℕ) (s g : Stream) (marks positions numbers times : List ℕ) (number time : ℕ) (v : ReceiverAnswer) where
-  -- the receiver before
-  abbrev r : Receiver
-  r = whole s marks positions numbers times
-
-  -- whether there is room for a new jump, and the state of the jumps after an in-order arrival with a jump size
-  abbrev room : Bool
-  room = ltb s.kept most
-
-  abbrev held : ℕ → Held
-  held size = held_after room (held_of s (places_of positions numbers times)) size (placed_at s number time)
-
+module _ (r : Receiver) (room : Bool) (number time : ℕ) where
   -- after a duplicate
-  pub duplicate-written : v ≡ Duplicate → g ≡ duplicate_stream s time
-      → whole g marks positions numbers times ≡ noted_state room r number time v
+  pub duplicate-written : (g : Stream) → g ≡ duplicate_stream r.stream time
+      → ◌≡◌ {A = Receiver} (record { stream = g; marks = r.marks; places = r.places }) (noted_state room r number time Duplicate)
   unfolding noted_state
-  duplicate-written n e = rw (n, e)
+  duplicate-written g e = rw e
 
-  -- after an in-order arrival that is no jump
-  pub in-order-written : (size : ℕ) (marks' : List ℕ) → v ≡ InOrder size → size ≡ 0
-      → g ≡ in_order_stream s (held size) number time → marks' ≡ with_mark marks number
-      → whole g marks' positions numbers times ≡ noted_state room r number time v
-  unfolding noted_state in_order_state held_after
-  in-order-written size marks' n z e m = rw (n, e, m, z)
+  -- after a reordered packet, exact or beyond the window
+  pub late-written : (v : ReceiverAnswer) (g : Stream) (marks' : List ℕ)
+      → ((l : Lateness) × (v ≡ Exact l)) ⊎ ((l : Lateness) × (v ≡ Beyond l))
+      → g ≡ reordered_stream r.stream number time → marks' ≡ with_mark r.marks number
+      → ◌≡◌ {A = Receiver} (record { stream = g; marks = marks'; places = r.places }) (noted_state room r number time v)
+  unfolding noted_state
+  late-written v g marks' (inl l) e m = rw (l.1, e, m)
+  late-written v g marks' (inr l) e m = rw (l.1, e, m)
 
-  -- after one that is
-  pub jump-written : (size : ℕ) (marks' positions' numbers' times' : List ℕ)
-      → (s.kept ≤ window_places) × (((1 ≤ most) × (most ≤ window_places)) × Full positions numbers times)
-      → v ≡ InOrder size → (size ≡ 0 → ⊥)
-      → g ≡ in_order_stream s (held size) number time → marks' ≡ with_mark marks number
-      → (positions' ≡ pushed room s.kept positions (s.arrived + 1))
-      × ((numbers' ≡ pushed room s.kept numbers number) × (times' ≡ pushed room s.kept times time))
-      → whole g marks' positions' numbers' times' ≡ noted_state room r number time v
-  unfolding noted_state in_order_state held_after with_jump laid place_at
-  jump-written size marks' positions' numbers' times' fits n z e m w =
-      rw (n, e, m, a, b, c, ne_eqb size 0 z)
+  module _ (size : ℕ) (marks' : List ℕ) (g : Stream) (m : marks' ≡ with_mark r.marks number) (e : g ≡ counted_in_order r.stream number time)
     where
-      full : Full positions numbers times
-      full = fits.1.1
+      -- after an in-order arrival that is no jump
+      pub in-order-written : size ≡ 0
+          → ◌≡◌ {A = Receiver} (record { stream = g; marks = marks'; places = r.places }) (noted_state room r number time (InOrder size))
+      unfolding noted_state in_order_state in_order_stream held_after
+      in-order-written z = rw (e, m, z)
 
-      before : Held
-      before = held_of s (places_of positions numbers times)
-
-      new : FirstArrival
-      new = placed_at s number time
-
-      laid-values : (f : FirstArrival → ℕ) (xs : List ℕ) → length xs ≡ window_places
-          → ((at : ℕ) → f (place_at before.places at) ≡ get_or xs at 0)
-          → pushed room s.kept xs (f new) ≡ over (map f (kept_with room (kept_of before) new)) xs
-      laid-values f xs l read =
-          let le : s.kept ≤ length xs = rw l fits.0 in
-          pushed-over f xs (kept_of before) new s.kept room (values-kept f xs before read le) le
-          (λ q. let lt : s.kept < most = ltb-true _ _ q in let i : most ≤ window_places = fits.1.0.1 in omega arith)
-          (λ q. let ge : most ≤ s.kept = ltb-false _ _ q in let i : 1 ≤ most = fits.1.0.0 in omega arith)
-
-      a : positions' ≡ over (map (λ (p : FirstArrival). p.position) (kept_with room (kept_of before) new)) positions
-      a = w.0 ∙ laid-values (λ (p : FirstArrival). p.position) positions full.0 (λ at. refl)
-
-      b : numbers' ≡ over (map (λ (p : FirstArrival). p.number) (kept_with room (kept_of before) new)) numbers
-      b = w.1.0 ∙ laid-values (λ (p : FirstArrival). p.number) numbers full.1.0 (λ at. refl)
-
-      c : times' ≡ over (map (λ (p : FirstArrival). p.time) (kept_with room (kept_of before) new)) times
-      c = w.1.1 ∙ laid-values (λ (p : FirstArrival). p.time) times full.1.1 (λ at. refl)
-
-  -- both cases of a reordered packet, exact or beyond the window, make one state
-  late-state : (w : ReceiverAnswer) → (w ≡ Duplicate → ⊥) → ((size : ℕ) → w ≡ InOrder size → ⊥)
-      → noted_state room r number time w ≡ reordered_state r number time
-  unfolding noted_state
-  late-state Duplicate k h = absurd (k refl)
-  late-state (InOrder size) k h = absurd (h size refl)
-  late-state (Exact l) k h = refl
-  late-state (Beyond l) k h = refl
-
-  -- after a reordered packet
-  pub late-written : (marks' : List ℕ) → (v ≡ Duplicate → ⊥) → ((size : ℕ) → v ≡ InOrder size → ⊥) → g ≡ reordered_stream s number time
-      → marks' ≡ with_mark marks number → whole g marks' positions numbers times ≡ noted_state room r number time v
-  late-written marks' k h e m = rw (late-state v k h, e, m)
+      -- after one that is: the jump is kept with the numbers g, and k are the numbers then
+      pub jump-written : (k : Stream) (after : Places) → (size ≡ 0 → ⊥)
+          → held_of k after ≡ with_jump room (held_of r.stream r.places) (placed_at r.stream number time)
+          → k ≡ record g { kept = k.kept; dropped = k.dropped }
+          → ◌≡◌ {A = Receiver} (record { stream = k; marks = marks'; places = after }) (noted_state room r number time (InOrder size))
+      unfolding noted_state in_order_state in_order_stream held_after
+      jump-written k after z h w =
+          ap (λ (s : Stream). record { stream = s; marks = marks'; places = after })
+          (w ∙ ap (λ (s : Stream). record s { kept = k.kept; dropped = k.dropped }) e)
+          ∙ rw (m, ne_eqb size 0 z, ← h)

@@ -1,13 +1,16 @@
 -- What private functions say to each other, which no public contract reaches: a fit state as facts, and the conditions and results of the
 -- functions of a step. Assumes nothing.
-use Rattle.std.specs.Prelude.{ℕ, zero, suc, ◌+◌, ◌<◌, ◌≤◌, Bool, true, false, cond, ◌&&◌, List, ◌∷◌, ◌++◌, map, ◌≡◌, ltb, length, get_or, set, take, drop}
-use Rattle.rfc4737.specs.Order.{FirstArrival}
+use Rattle.std.specs.Prelude.{Option, None, Some, ℕ, zero, suc, ◌+◌, ◌<◌, ◌≤◌, Bool, true, false, cond, ◌&&◌, List, ◌∷◌, ◌++◌, map, ◌≡◌, ltb, length, get_or, set, take, drop}
+use Rattle.rfc4737.specs.Order.{FirstArrival, next_after}
+use Rattle.rfc4737.specs.Times.{next_reference}
 use Rattle.rfc4737.specs.Judge.{sent_most, arrivals_most}
-use Rattle.rfc4737.specs.Runs.{squares_most}
+use Rattle.rfc4737.specs.Runs.{squares_most, lengthened}
+use Rattle.receiver.specs.declared.Jump.{Jump}
 use Rattle.receiver.specs.declared.Stream.{Stream}
 use Rattle.receiver.specs.declared.Places.{Places}
 use Rattle.receiver.specs.declared.Receiver.{Receiver}
 use Rattle.receiver.specs.Limits.{window_places}
+use Rattle.receiver.specs.Parts.{oldest_first}
 use Rattle.receiver.specs.Kept.{held_of, kept_of}
 use Rattle.receiver.specs.Fit.{every, jump_fit}
 
@@ -69,3 +72,41 @@ first_pass t l (suc n) = first_pass t l n && t (get_or l n 0)
 -- the values of n kept jumps with a new one after them; if there is no room for it, the oldest is dropped and the others move one place
 unfoldable pub pushed : Bool → ℕ → List ℕ → ℕ → List ℕ
 pushed room n l v = cond room (set l n v) (drop 1 (take n l) ++ (v ∷ drop n l))
+
+-- the place that was found, or how many are kept if none was
+abbrev pub found_or : ℕ → Option ℕ → ℕ
+found_or kept None = kept
+found_or kept (Some i) = i
+
+-- a kept jump, in the code's form and in that of the definitions
+abbrev pub jump_of : Jump → FirstArrival
+jump_of jump = record { position = jump.position; number = jump.number; time = jump.time }
+
+-- the places with a jump stored in one
+abbrev pub with_jump_at : Places → ℕ → FirstArrival → Places
+with_jump_at places i p =
+    record { positions = set places.positions i p.position; numbers = set places.numbers i p.number; times = set places.times i p.time }
+
+-- the places that n kept jumps leave with a new one after them, the oldest dropped
+abbrev pub pushed_places : ℕ → Places → FirstArrival → Places
+pushed_places n places p =
+    record {
+      positions = pushed false n places.positions p.position;
+      numbers = pushed false n places.numbers p.number;
+      times = pushed false n places.times p.time;
+    }
+
+-- the numbers after an in-order arrival, but for its jump
+abbrev pub counted_in_order : Stream → ℕ → ℕ → Stream
+counted_in_order s number time =
+    record {
+      sent = s.sent;
+      arrived = s.arrived + 1;
+      duplicates = s.duplicates;
+      inorder = s.inorder + 1;
+      next = next_after s.next number;
+      kept = s.kept;
+      greatest = next_reference s.greatest time;
+      runs = lengthened s.runs;
+      dropped = s.dropped;
+    }

@@ -1,17 +1,16 @@
-// The step on a receiver's parts: the stream's numbers are passed and returned by value; the marks and the places of the kept jumps
-// are borrowed and written in place.
+// The step of a stream, in place: an arrival is decided first, which only reads; then the stream's parts are written.
 
-ghost use Rattle.std.specs.Prelude.{◌≡◌, ◌≤◌, ltb};
-ghost use Rattle.receiver.specs.Limits.{window_places};
-ghost use Rattle.receiver.specs.Parts.{whole, whole_by, step_answer_of, step_answer_by};
-ghost use Rattle.receiver.specs.Step.{step_with, step_of};
-ghost use Rattle.receiver.specs.Private.{Full};
+ghost use Rattle.std.specs.Prelude.{◌≡◌, []};
+ghost use Rattle.rfc4737.specs.Refused.{refusal_in};
+ghost use Rattle.receiver.specs.Parts.{in_count, receiver_by, outcome_by};
+ghost use Rattle.receiver.specs.Step.{step_refusal, late_outcome, outcome_of, step_within};
+ghost use Rattle.receiver.specs.Fit.{fit};
+ghost use Rattle.receiver.specs.Private.{Unrefused};
 
-use crate::decide::decide;
-use crate::kept::push;
-use crate::marking::mark;
-use crate::numbers::{after_duplicate, after_in_order, after_reordered};
-use crate::{MARK_WORDS, MAX_KEPT, Outcome, Receiver, ReceiverAnswer, Stream, parts};
+use crate::marking::{is_marked, mark};
+use crate::{Jump, MARK_WORDS, Outcome, Places, Receiver, ReceiverAnswer, Share, Stream};
+use rfc4737::judge::judge_one;
+use rfc4737::refusal::Refusal;
 
 // The outcome of an arrival, and the stream's numbers after it.
 #[derive(Clone, Copy)]
@@ -20,76 +19,109 @@ pub struct StreamStep {
     pub stream: Stream,
 }
 
-// Steps a stream that keeps at most `most` jumps, its places counted down from the last if `down`. First the outcome is decided,
-// which only reads; then the parts are written. A refused arrival leaves them as they were.
-pub(crate) fn advance_within<'a>(
-    s: Stream,
-    down: bool,
-    most: u32,
-    marks: &'a mut [u64; MARK_WORDS],
-    positions: &'a mut [u16; Receiver::WINDOW],
-    numbers: &'a mut [u16; Receiver::WINDOW],
-    times: &'a mut [u64; Receiver::WINDOW],
-    number: u32,
-    time: u64,
-) -> StreamStep
-    requires { ((1 ≤ most) × (most ≤ window_places)) × Full positions.old numbers.old times.old }
-    ensures { step_answer_by down result marks.new positions.new numbers.new times.new
-        ≡ step_with (ltb s.kept most) (whole_by down s marks.old positions.old numbers.old
-        times.old) number time }
-{
-    let outcome = decide(s, down, marks, positions, numbers, times, number, time);
-    if outcome.refusal != 0 {
-        return StreamStep { outcome, stream: s };
-    }
-    let noted = outcome.noted;
-    match noted {
-        ReceiverAnswer::Duplicate => StreamStep {
-            outcome,
-            stream: after_duplicate(s, time),
-        },
-        ReceiverAnswer::InOrder(size) => {
-            let stream = after_in_order(s, most, down, numbers, size, number, time);
-            mark(marks, number);
-            if size != 0 {
-                push(
-                    positions,
-                    numbers,
-                    times,
-                    down,
-                    s.kept,
-                    most,
-                    (s.arrived + 1) as u16,
-                    number as u16,
-                    time,
-                );
-            }
-            StreamStep { outcome, stream }
+impl Stream {
+    // Steps the stream, whose marks and places are lent; it keeps its jumps in its share of the places. Returns what is noted of the
+    // arrival, or its refusal, which leaves all as it was.
+    pub fn step(
+        &mut self,
+        marks: &mut [u64; MARK_WORDS],
+        places: &mut Places,
+        share: Share,
+        number: u32,
+        time: u64,
+    ) -> Result<ReceiverAnswer, Refusal>
+        ensures { record {
+          outcome = outcome_by result;
+          state = receiver_by share.down self.new marks.new places.new;
         }
-        _ => {
-            mark(marks, number);
-            StreamStep {
-                outcome,
-                stream: after_reordered(s, number, time),
+            ≡ step_within share.most (receiver_by share.down self.old marks.old places.old) number time }
+    {
+        let share = Share {
+            most: share.room(),
+            ..share
+        };
+        let noted = self.decide(marks, places, share.down, number, time)?;
+        match noted {
+            ReceiverAnswer::Duplicate => self.count_duplicate(time),
+            ReceiverAnswer::InOrder(size) => {
+                mark(marks, number);
+                self.count_in_order(number, time);
+                if size != 0 {
+                    let jump = Jump {
+                        position: self.arrived as u16,
+                        number: number as u16,
+                        time,
+                    };
+                    places.keep(self, share, jump);
+                }
+            }
+            ReceiverAnswer::Exact(_) | ReceiverAnswer::Beyond(_) => {
+                mark(marks, number);
+                self.count_reordered(number, time);
             }
         }
+        Ok(noted)
     }
-}
 
-// The step of a receiver's parts: it keeps 64 jumps, counted from the first place up.
-pub(crate) fn advance<'a>(
-    s: Stream,
-    marks: &'a mut [u64; MARK_WORDS],
-    positions: &'a mut [u16; Receiver::WINDOW],
-    numbers: &'a mut [u16; Receiver::WINDOW],
-    times: &'a mut [u64; Receiver::WINDOW],
-    number: u32,
-    time: u64,
-) -> StreamStep
-    ensures { step_answer_of result marks.new positions.new numbers.new times.new
-        ≡ step_of (whole s marks.old positions.old numbers.old times.old) number time }
-{
-    parts::advance(
-        s, false, MAX_KEPT, marks, positions, numbers, times, number, time,
-    )
+    // Returns whether the stream is fit with these places.
+    pub fn is_fit_with(&self, places: &Places, down: bool) -> bool
+        ensures { result ≡ fit (receiver_by down self.now [] places.now) }
+    {
+        self.is_fit() && places.are_fit(self, down)
+    }
+
+    // Returns what is noted of an arrival, or its refusal.
+    fn decide(
+        &self,
+        marks: &[u64; MARK_WORDS],
+        places: &Places,
+        down: bool,
+        number: u32,
+        time: u64,
+    ) -> Result<ReceiverAnswer, Refusal>
+        ensures { outcome_by result ≡ outcome_of (receiver_by down self.now marks.now places.now) number time }
+    {
+        self.check(places, down, number, time)?;
+        if is_marked(marks, number) {
+            return Ok(ReceiverAnswer::Duplicate);
+        }
+        if self.next <= number {
+            return Ok(ReceiverAnswer::InOrder(number - self.next));
+        }
+        self.note_reordered(places, down, number, time)
+    }
+
+    // Judges an arrival by the state, its number and its time.
+    fn check(&self, places: &Places, down: bool, number: u32, time: u64) -> Result<(), Refusal>
+        ensures { refusal_in result ≡ step_refusal (receiver_by down self.now [] places.now) number time }
+    {
+        if !self.is_fit_with(places, down) {
+            return Err(Refusal::StateUnfit);
+        }
+        if self.arrived + self.duplicates == Receiver::PACKETS {
+            return Err(Refusal::StateFull);
+        }
+        judge_one(self.sent as u64, self.greatest, number as u64, time)
+    }
+
+    // Returns what is noted of a reordered packet; a state in which no kept jump has a greater number is unfit.
+    fn note_reordered(
+        &self,
+        places: &Places,
+        down: bool,
+        number: u32,
+        time: u64,
+    ) -> Result<ReceiverAnswer, Refusal>
+        requires { Unrefused (receiver_by down self.now [] places.now) number }
+        ensures { outcome_by result ≡ late_outcome self.now (in_count down places.now) (record { number = number; time = time }) }
+    {
+        let Some(found) = places.above(down, self.kept, number) else {
+            return Err(Refusal::StateUnfit);
+        };
+        let position = self.arrived + 1;
+        if number < self.dropped {
+            return Ok(ReceiverAnswer::Beyond(places.lateness_from(down, 0, position, time)));
+        }
+        Ok(ReceiverAnswer::Exact(places.lateness_from(down, found, position, time)))
+    }
 }

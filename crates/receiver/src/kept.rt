@@ -1,148 +1,191 @@
-// The kept jumps: searching for one with a greater number, and storing a new one.
+// The places of the kept jumps: whether they are fit, searching them for a jump with a greater number, and keeping a new one.
+// The three arrays stay beside each other, since C has `Places` in this layout.
 
-ghost use Rattle.std.specs.Prelude.{◌≡◌, false, cond, ◌+◌, ◌≤◌, ◌<◌, eqb, ltb, length, get_or};
+ghost use Rattle.std.specs.Prelude.{◌≡◌, false, ◌+◌, ◌<◌, ◌≤◌, ℕ, leb, ltb, get_or, IfSome};
+ghost use Rattle.std.proofs.Math.Option.{some};
+ghost use Rattle.rfc4737.specs.Refusals.{within};
+ghost use Rattle.rfc4737.specs.Judge.{sent_most};
 ghost use Rattle.receiver.specs.Limits.{window_places};
-ghost use Rattle.receiver.specs.Parts.{oldest_first};
-ghost use Rattle.receiver.specs.Private.{Full, FirstAbove, pushed};
+ghost use Rattle.receiver.specs.Outcomes.{lateness_from};
+ghost use Rattle.receiver.specs.Parts.{place_from, oldest_first, in_count};
+ghost use Rattle.receiver.specs.Fit.{places_fit};
+ghost use Rattle.receiver.specs.Kept.{place_at, held_of, with_jump};
+ghost use Rattle.receiver.specs.Private.{FirstAbove, first_pass, found_or, jump_of, with_jump_at, pushed, pushed_places};
 
-use crate::Receiver;
-use crate::ends::{LAST, place};
+use crate::{Jump, Lateness, Places, Receiver, Share, Stream};
+use rfc4737::time::elapsed;
 
-// Widens a number of 16 bits to 32.
-pub(crate) fn wide(x: u16) -> u32
-    ensures { result ≡ x }
+// The last index.
+const LAST: usize = Receiver::WINDOW - 1;
+
+// Returns the index of place i.
+fn place(down: bool, i: usize) -> usize
+    requires { i < window_places }
+    ensures { (result ≡ place_from down i) × (result < window_places) }
 {
-    x as u32
+    if down { LAST - i } else { i }
 }
 
-// Returns the place of the oldest kept jump whose number is above `number`; `kept` if there is none.
-pub(crate) fn place_above(
-    numbers: &[u16; Receiver::WINDOW],
-    down: bool,
-    kept: u32,
-    number: u32,
-) -> usize
-    requires { (kept ≤ window_places) × (length numbers.now ≡ window_places) }
-    ensures { FirstAbove (oldest_first down numbers.now) kept number result }
-{
-    let count = kept as usize;
-    let mut i = 0;
-    while i < count {
-        if number < wide(numbers[place(down, i)]) {
-            return i;
+impl Places {
+    // Returns whether the kept places are fit under the stream's K, L and greatest time.
+    pub(crate) fn are_fit(&self, stream: &Stream, down: bool) -> bool
+        requires { (stream.now.sent ≤ sent_most) × (stream.now.arrived ≤ sent_most) }
+        ensures { result ≡ places_fit stream.now (in_count down self.now) }
+    {
+        let kept = stream.kept as usize;
+        if Receiver::WINDOW < kept || stream.sent < stream.dropped {
+            return false;
         }
-        i += 1;
+        all_within(&self.positions, down, kept, stream.arrived as u16)
+            && all_within(&self.numbers, down, kept, stream.sent as u16)
+            && none_after(&self.times, down, kept, stream.greatest)
     }
-    count
+
+    // Returns the place of the oldest kept jump whose number is above `number`, if there is one.
+    pub(crate) fn above(&self, down: bool, kept: u32, number: u32) -> Option<usize>
+        requires { kept ≤ window_places }
+        ensures first { FirstAbove (oldest_first down self.now.numbers) kept number (found_or kept result) }
+        ensures kept { IfSome result (λ i. i < kept) }
+    {
+        for i in 0..kept as usize {
+            if number < self.numbers[place(down, i)] as u32 {
+                return Some(i);
+            }
+        }
+        None
+    }
+
+    // Returns extent and late time of the packet that arrives at `position` and `time`, measured from the jump in place `i`.
+    pub(crate) fn lateness_from(&self, down: bool, i: usize, position: u32, time: u64) -> Lateness
+        requires { (i < window_places) × (get_or (oldest_first down self.now.positions) i 0 ≤ position) }
+        ensures { result ≡ lateness_from position time (some (place_at (in_count down self.now) i)) }
+    {
+        let jump = self.jump(down, i);
+        Lateness {
+            extent: position - jump.position as u32,
+            late: elapsed(jump.time, time),
+        }
+    }
+
+    // Keeps a new jump of the stream: it goes after the kept ones; if the stream's share is full, the oldest is dropped for it.
+    pub(crate) fn keep(&mut self, stream: &mut Stream, share: Share, jump: Jump)
+        requires { (stream.old.kept ≤ window_places) × ((1 ≤ share.most) × (share.most ≤ window_places)) }
+        ensures jumps { held_of stream.new (in_count share.down self.new)
+            ≡ with_jump (ltb stream.old.kept share.most) (held_of stream.old (in_count share.down self.old)) (jump_of jump) }
+        ensures numbers { stream.new ≡ record stream.old { kept = stream.new.kept; dropped = stream.new.dropped } }
+    {
+        let kept = stream.kept as usize;
+        if stream.kept < share.most {
+            stream.kept += 1;
+            self.put(share.down, kept, jump);
+        } else {
+            stream.dropped = self.jump(share.down, 0).number as u32;
+            self.shift(share.down, kept, jump);
+        }
+    }
+
+    // Drops the oldest of `kept` jumps, moves the others by one place and stores a new one after them. The case that all places are taken
+    // has its own code, since a loop over a fixed number of places costs less.
+    fn shift(&mut self, down: bool, kept: usize, jump: Jump)
+        requires { (1 ≤ kept) × (kept ≤ window_places) }
+        ensures { in_count down self.new ≡ pushed_places kept (in_count down self.old) (jump_of jump) }
+    {
+        if kept == Receiver::WINDOW {
+            self.put_last(down, LAST, jump);
+        } else {
+            self.put_last(down, kept - 1, jump);
+        }
+    }
+
+    // Moves the jumps after the oldest, up to `last`, by one place, and stores a new one at `last`.
+    fn put_last(&mut self, down: bool, last: usize, jump: Jump)
+        requires { last < window_places }
+        ensures { in_count down self.new ≡ pushed_places (last + 1) (in_count down self.old) (jump_of jump) }
+    {
+        push_16(&mut self.positions, down, last, jump.position);
+        push_16(&mut self.numbers, down, last, jump.number);
+        push_64(&mut self.times, down, last, jump.time);
+    }
+
+    // Returns the jump in place i.
+    fn jump(&self, down: bool, i: usize) -> Jump
+        requires { i < window_places }
+        ensures { jump_of result ≡ place_at (in_count down self.now) i }
+    {
+        let at = place(down, i);
+        Jump {
+            position: self.positions[at],
+            number: self.numbers[at],
+            time: self.times[at],
+        }
+    }
+
+    // Stores a jump in place i.
+    fn put(&mut self, down: bool, i: usize, jump: Jump)
+        requires { i < window_places }
+        ensures { in_count down self.new ≡ with_jump_at (in_count down self.old) i (jump_of jump) }
+    {
+        let at = place(down, i);
+        self.positions[at] = jump.position;
+        self.numbers[at] = jump.number;
+        self.times[at] = jump.time;
+    }
 }
 
-// Returns how many jumps are kept after an in-order arrival with jump size `size`, if at most `most` are kept.
-pub(crate) fn kept_after(kept: u32, most: u32, size: u32) -> u32
-    ensures { result ≡ cond (eqb size 0) kept (cond (ltb kept most) (kept + 1) kept) }
+// Moves the values after the oldest, up to `last`, by one place, and stores a new one at `last`. From a copy, and the new one first, so that
+// LLVM makes memcpy of the loop: all three arrays in one loop cost a step with the window full a quarter more, and with the new one last,
+// or by `copy_within`, memmove is called, which the archive does not ask of C.
+fn push_16(values: &mut [u16; Receiver::WINDOW], down: bool, last: usize, value: u16)
+    requires { last < window_places }
+    ensures { oldest_first down values.new ≡ pushed false (last + 1) (oldest_first down values.old) value }
 {
-    if size == 0 {
-        return kept;
+    let held = *values;
+    values[place(down, last)] = value;
+    for i in 0..last {
+        values[place(down, i)] = held[place(down, i + 1)];
     }
-    if kept < most {
-        return kept + 1;
-    }
-    kept
 }
 
-// Returns the number of the last jump dropped after an in-order arrival with jump size `size`, if at most `most` are kept.
-pub(crate) fn dropped_after(
-    dropped: u32,
-    kept: u32,
-    most: u32,
-    size: u32,
-    down: bool,
-    numbers: &[u16; Receiver::WINDOW],
-) -> u32
-    requires { length numbers.now ≡ window_places }
-    ensures { result ≡ cond (eqb size 0) dropped (cond (ltb kept most) dropped (get_or (oldest_first down numbers.now) 0 0)) }
+// The same for values of 64 bits. No generic function of the two: the definitions are over numbers.
+fn push_64(values: &mut [u64; Receiver::WINDOW], down: bool, last: usize, value: u64)
+    requires { last < window_places }
+    ensures { oldest_first down values.new ≡ pushed false (last + 1) (oldest_first down values.old) value }
 {
-    if size == 0 {
-        return dropped;
+    let held = *values;
+    values[place(down, last)] = value;
+    for i in 0..last {
+        values[place(down, i)] = held[place(down, i + 1)];
     }
-    if kept < most {
-        return dropped;
-    }
-    wide(numbers[place(down, 0)])
 }
 
-// Drops the oldest jump, shifts the others up to `last` down by one and stores the new one at `last`.
-fn put_last<'a>(
-    positions: &'a mut [u16; Receiver::WINDOW],
-    numbers: &'a mut [u16; Receiver::WINDOW],
-    times: &'a mut [u64; Receiver::WINDOW],
-    down: bool,
-    last: usize,
-    position: u16,
-    number: u16,
-    time: u64,
-)
-    requires { (last < window_places) × Full positions.old numbers.old times.old }
-    ensures { (oldest_first down positions.new
-        ≡ pushed false (last + 1) (oldest_first down positions.old) position)
-        × ((oldest_first down numbers.new ≡ pushed false (last + 1) (oldest_first down numbers.old) number)
-        × (oldest_first down times.new ≡ pushed false (last + 1) (oldest_first down times.old) time)) }
+// Returns whether a value is from 1 to `most`.
+fn is_within(most: u16, value: u16) -> bool
+    ensures { result ≡ within 1 most value }
 {
-    let mut i = 0;
-    while i < last {
-        let to = place(down, i);
-        let from = place(down, i + 1);
-        times[to] = times[from];
-        positions[to] = positions[from];
-        numbers[to] = numbers[from];
-        i += 1;
-    }
-    let end = place(down, last);
-    positions[end] = position;
-    numbers[end] = number;
-    times[end] = time;
+    value != 0 && value <= most
 }
 
-// Stores a new jump after the `kept` ones. If `most` are kept, the oldest is dropped and the others are shifted by one. The case that all
-// places are taken has its own code, since a loop over a fixed number of places costs less.
-pub(crate) fn push<'a>(
-    positions: &'a mut [u16; Receiver::WINDOW],
-    numbers: &'a mut [u16; Receiver::WINDOW],
-    times: &'a mut [u64; Receiver::WINDOW],
-    down: bool,
-    kept: u32,
-    most: u32,
-    position: u16,
-    number: u16,
-    time: u64,
-)
-    requires { (kept ≤ window_places) × (((1 ≤ most) × (most ≤ window_places)) × Full positions.old numbers.old times.old) }
-    ensures { (oldest_first down positions.new
-        ≡ pushed (ltb kept most) kept (oldest_first down positions.old) position)
-        × ((oldest_first down numbers.new ≡ pushed (ltb kept most) kept (oldest_first down numbers.old) number)
-        × (oldest_first down times.new ≡ pushed (ltb kept most) kept (oldest_first down times.old) time)) }
+// Returns whether each of the first `count` values is from 1 to `most`. Without an early return LLVM compares several at a time.
+fn all_within(values: &[u16; Receiver::WINDOW], down: bool, count: usize, most: u16) -> bool
+    requires { count ≤ window_places }
+    ensures { result ≡ first_pass (within 1 most) (oldest_first down values.now) count }
 {
-    let count = kept as usize;
-    if kept < most {
-        let end = place(down, count);
-        positions[end] = position;
-        numbers[end] = number;
-        times[end] = time;
-        return;
+    let mut fit = true;
+    for i in 0..count {
+        fit &= is_within(most, values[place(down, i)]);
     }
-    if count == Receiver::WINDOW {
-        put_last(
-            positions, numbers, times, down, LAST, position, number, time,
-        );
-        return;
+    fit
+}
+
+// Returns whether none of the first `count` times is after `greatest`, likewise without an early return. A closure for the test of a value
+// would make one function of the two, with contracts on what each closure computes: no plainer.
+fn none_after(times: &[u64; Receiver::WINDOW], down: bool, count: usize, greatest: u64) -> bool
+    requires { count ≤ window_places }
+    ensures { result ≡ first_pass (λ (t : ℕ). leb t greatest) (oldest_first down times.now) count }
+{
+    let mut fit = true;
+    for i in 0..count {
+        fit &= times[place(down, i)] <= greatest;
     }
-    put_last(
-        positions,
-        numbers,
-        times,
-        down,
-        count - 1,
-        position,
-        number,
-        time,
-    );
+    fit
 }

@@ -3,9 +3,6 @@
 #![tactic(auto)]
 
 pub mod advance;
-mod decide;
-mod ends;
-mod fit;
 mod kept;
 mod marking;
 pub mod numbering;
@@ -17,22 +14,21 @@ ghost use Rattle.rfc4737.specs.declared.Arrival.{Arrival};
 ghost use Rattle.rfc4737.specs.Moved.{MovedTwice};
 ghost use Rattle.receiver.specs.Limits.{window_places};
 ghost use Rattle.receiver.specs.Fit.{fit};
+ghost use Rattle.receiver.specs.Parts.{outcome_by};
 ghost use Rattle.receiver.specs.Step.{made_for, fresh_of, step_within, step_of};
 ghost use Rattle.receiver.specs.Lent.{AsStep};
 ghost use Rattle.receiver.specs.Demand3.{Demand3};
 ghost use Rattle.receiver.specs.WindowCases.{WindowCasesHold};
 ghost use Rattle.receiver.specs.Moved.{MovedAnswers};
 
-use advance::{advance, advance_within};
-use fit::{places_fit, stream_fit};
-use parts::fresh_stream;
 use rfc4737::judge::{SENT_MOST, outside};
-use rfc4737::{LateTime, Runs, refusal};
+use rfc4737::refusal::{NONE, Refusal};
+use rfc4737::{LateTime, Runs};
 
 // The numbers that a step decides by: the packets sent (K), the first arrivals (L), the duplicates, the in-order count,
 // NextExp, how many jumps are kept, the greatest time of an accepted arrival (0 at first), the runs, and the number of the
 // last jump dropped (0 for none).
-#[derive(Clone, Copy)]
+#[derive(Clone, Copy, PartialEq, Eq)]
 #[repr(C)]
 pub struct Stream {
     pub sent: u32,
@@ -47,7 +43,7 @@ pub struct Stream {
 }
 
 // The places of the kept jumps: position, number and time of each, the oldest first. Those after the kept ones are unused.
-#[derive(Clone, Copy)]
+#[derive(Clone, Copy, PartialEq, Eq)]
 #[repr(C)]
 pub struct Places {
     pub positions: [u16; Receiver::WINDOW],
@@ -55,8 +51,23 @@ pub struct Places {
     pub times: [u64; Receiver::WINDOW],
 }
 
-// The state of a receiver: the numbers of its stream, a bit for each packet that has arrived, and the places of its kept jumps.
+// A kept jump: its position, number and time.
 #[derive(Clone, Copy)]
+struct Jump {
+    position: u16,
+    number: u16,
+    time: u64,
+}
+
+// A stream's share of the places: it counts them from the first up, or from the last down, and keeps at most so many jumps in them.
+#[derive(Clone, Copy)]
+pub struct Share {
+    pub down: bool,
+    pub most: u32,
+}
+
+// The state of a receiver: the numbers of its stream, a bit for each packet that has arrived, and the places of its kept jumps.
+#[derive(Clone, Copy, PartialEq, Eq)]
 #[repr(C)]
 pub struct Receiver {
     pub stream: Stream,
@@ -81,7 +92,8 @@ pub enum ReceiverAnswer {
     Beyond(Lateness),
 }
 
-// The outcome of an arrival: the refusal (0 for none), and the case noted.
+// The outcome of an arrival: the refusal (0 for none), and the case noted. Both stand side by side, since the clauses of `step` and
+// `AsStep` name both.
 #[derive(Clone, Copy)]
 pub struct Outcome {
     pub refusal: u32,
@@ -95,7 +107,7 @@ pub struct StepAnswer {
     pub state: Receiver,
 }
 
-// The answer of `fresh`: the refusal (0 for none), and the state.
+// The answer of `fresh`: the refusal (0 for none), and the state. A refusal leaves a state too, as `fresh_of` says.
 #[derive(Clone, Copy)]
 #[repr(C)]
 pub struct FreshAnswer {
@@ -122,12 +134,12 @@ impl Receiver {
     {
         if outside(1, SENT_MOST, k as u64) {
             return FreshAnswer {
-                refusal: refusal::SENT_OUTSIDE,
+                refusal: Refusal::SentOutside.number(),
                 state: made_for(1),
             };
         }
         FreshAnswer {
-            refusal: 0,
+            refusal: NONE,
             state: made_for(k),
         }
     }
@@ -136,40 +148,22 @@ impl Receiver {
     pub fn step(self, number: u32, time: u64) -> StepAnswer
         ensures { result ≡ step_of self number time }
     {
-        self.step_within(MAX_KEPT, number, time)
+        self.step_within(Share::WHOLE.most, number, time)
     }
 
     // The same for a receiver that keeps at most `most` jumps; 0 is taken as 1, and more than 64 as 64.
     pub fn step_within(mut self, most: u32, number: u32, time: u64) -> StepAnswer
         ensures { result ≡ step_within most self number time }
     {
-        let kept = at_most(most);
-        let mut marks = self.marks;
-        let mut positions = self.places.positions;
-        let mut numbers = self.places.numbers;
-        let mut times = self.places.times;
-        let a = advance_within(
-            self.stream,
-            false,
-            kept,
-            &mut marks,
-            &mut positions,
-            &mut numbers,
-            &mut times,
-            number,
-            time,
-        );
-        let outcome = a.outcome;
-        let stream = a.stream;
-        self.stream = stream;
-        self.marks = marks;
-        let mut places = self.places;
-        places.positions = positions;
-        places.numbers = numbers;
-        places.times = times;
-        self.places = places;
+        let share = Share {
+            most,
+            ..Share::WHOLE
+        };
+        let answer = self
+            .stream
+            .step(&mut self.marks, &mut self.places, share, number, time);
         StepAnswer {
-            outcome,
+            outcome: Outcome::of(answer),
             state: self,
         }
     }
@@ -178,56 +172,60 @@ impl Receiver {
     pub fn is_fit(self) -> bool
         ensures { result ≡ fit self }
     {
-        if !stream_fit(self.stream) {
-            return false;
+        self.stream.is_fit_with(&self.places, Share::WHOLE.down)
+    }
+}
+
+impl Share {
+    // The share of a receiver's only stream: all places, from the first up.
+    pub const WHOLE: Share = Share {
+        down: false,
+        most: Receiver::WINDOW as u32,
+    };
+
+    // Returns how many jumps are kept at most: 0 is taken as 1, and more than 64 as 64.
+    fn room(self) -> u32
+        ensures { result ≡ max 1 (min self.most window_places) }
+    {
+        self.most.clamp(1, Share::WHOLE.most)
+    }
+}
+
+impl Outcome {
+    // Returns the outcome that an answer tells: what is noted, or the refusal, which notes nothing.
+    pub fn of(answer: Result<ReceiverAnswer, Refusal>) -> Outcome
+        ensures { result ≡ outcome_by answer }
+    {
+        match answer {
+            Ok(noted) => Outcome {
+                refusal: NONE,
+                noted,
+            },
+            Err(refusal) => Outcome {
+                refusal: refusal.number(),
+                noted: ReceiverAnswer::InOrder(0),
+            },
         }
-        let positions = self.places.positions;
-        let numbers = self.places.numbers;
-        let times = self.places.times;
-        places_fit(self.stream, false, &positions, &numbers, &times)
     }
 }
 
-// Receiver::WINDOW as a number of 32 bits.
-const MAX_KEPT: u32 = Receiver::WINDOW as u32;
-
-// Clamps `most` to 1 to 64.
-pub(crate) fn at_most(most: u32) -> u32
-    ensures { result ≡ max 1 (min most window_places) }
-{
-    if most == 0 {
-        return 1;
-    }
-    if MAX_KEPT < most {
-        return MAX_KEPT;
-    }
-    most
-}
-
-// Steps the borrowed receiver in place; returns the outcome of `Receiver::step`. Only the stream's numbers are copied.
+// Steps the borrowed receiver in place; returns the outcome of `Receiver::step`.
 pub fn step_in_place(r: &mut Receiver, number: u32, time: u64) -> Outcome
     ensures { AsStep r.old number time result r.new }
 {
-    let a = advance(
-        r.stream,
-        &mut r.marks,
-        &mut r.places.positions,
-        &mut r.places.numbers,
-        &mut r.places.times,
-        number,
-        time,
-    );
-    r.stream = a.stream;
-    a.outcome
+    Outcome::of(
+        r.stream
+            .step(&mut r.marks, &mut r.places, Share::WHOLE, number, time),
+    )
 }
 
 // Returns the receiver for k packets before any arrival.
+#[tactic(auto, unfolding(crate::specs::Step::made_for))]
 fn made_for(k: u32) -> Receiver
     ensures { result ≡ made_for k }
 {
-    let stream = fresh_stream(k);
     Receiver {
-        stream,
+        stream: Stream::fresh(k),
         marks: [0u64; MARK_WORDS],
         places: Places {
             positions: [0u16; Receiver::WINDOW],

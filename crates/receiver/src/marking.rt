@@ -7,6 +7,7 @@ ghost use Rattle.receiver.specs.Marks.{mark_at, with_mark};
 use crate::MARK_WORDS;
 
 // Returns whether the packet `number` is marked.
+#[tactic(auto, unfolding(crate::specs::Marks::mark_at))]
 pub(crate) fn is_marked(marks: &[u64; MARK_WORDS], number: u32) -> bool
     requires { (1 ≤ number) × (number ≤ sent_most) }
     ensures { result ≡ mark_at marks.now number }

@@ -1,96 +1,95 @@
-// The stream's numbers after an accepted arrival.
+// The numbers of a stream: fresh, fit, and as an accepted arrival changes them.
 
-ghost use Rattle.std.specs.Prelude.{◌≡◌, List, ℕ, ◌≤◌, ltb, length};
-ghost use Rattle.receiver.specs.Limits.{window_places};
-ghost use Rattle.receiver.specs.Parts.{oldest_first, places_of};
+ghost use Rattle.std.specs.Prelude.{◌≡◌, ◌≤◌};
 ghost use Rattle.rfc4737.specs.Judge.{sent_most};
 ghost use Rattle.rfc4737.specs.Order.{next_after};
 ghost use Rattle.rfc4737.specs.Runs.{lengthened, ended, squares_most};
-ghost use Rattle.receiver.specs.Kept.{held_of, held_after};
-ghost use Rattle.receiver.specs.Step.{placed_at, duplicate_stream, in_order_stream, reordered_stream};
-ghost use Rattle.receiver.specs.Private.{StreamFit};
+ghost use Rattle.receiver.specs.Fit.{stream_fit};
+ghost use Rattle.receiver.specs.Step.{fresh_stream, duplicate_stream, reordered_stream};
+ghost use Rattle.receiver.specs.Private.{StreamFit, counted_in_order};
 
-use crate::kept::{dropped_after, kept_after};
 use crate::{Receiver, Stream};
 use rfc4737::Runs;
 use rfc4737::time::next_reference;
 
-// Returns the numbers after a duplicate.
-pub(crate) fn after_duplicate(s: Stream, time: u64) -> Stream
-    requires { s.duplicates ≤ sent_most }
-    ensures { result ≡ duplicate_stream s time }
-{
-    let runs = s.runs;
-    Stream {
-        sent: s.sent,
-        arrived: s.arrived,
-        duplicates: s.duplicates + 1,
-        inorder: s.inorder,
-        next: s.next,
-        kept: s.kept,
-        greatest: next_reference(s.greatest, time),
-        runs,
-        dropped: s.dropped,
-    }
-}
+// The greatest sum of squares.
+const SQUARES_MOST: u32 = 16777216;
 
-// Returns the numbers after an in-order arrival with jump size `size`, if at most `most` jumps are kept; `numbers` are those of the kept
-// jumps before it.
-pub(crate) fn after_in_order(
-    s: Stream,
-    most: u32,
-    down: bool,
-    numbers: &[u16; Receiver::WINDOW],
-    size: u32,
-    number: u32,
-    time: u64,
-) -> Stream
-    requires { StreamFit s × ((number ≤ sent_most) × ((1 ≤ most) × (length numbers.now ≡ window_places))) }
-    ensures { (positions times : List ℕ) → result ≡ in_order_stream s
-        (held_after (ltb s.kept most) (held_of s (places_of positions (oldest_first down numbers.now) times)) size (placed_at s number time)) number time }
-{
-    let runs = lengthened(s.runs);
-    Stream {
-        sent: s.sent,
-        arrived: s.arrived + 1,
-        duplicates: s.duplicates,
-        inorder: s.inorder + 1,
-        next: next_after(s.next, number),
-        kept: kept_after(s.kept, most, size),
-        greatest: next_reference(s.greatest, time),
-        runs,
-        dropped: dropped_after(s.dropped, s.kept, most, size, down, numbers),
+impl Stream {
+    // Returns the numbers of a stream for k packets, before any arrival.
+    #[tactic(auto, unfolding(crate::specs::Step::fresh_stream))]
+    pub(crate) fn fresh(k: u32) -> Stream
+        ensures { result ≡ fresh_stream k }
+    {
+        Stream {
+            sent: k,
+            arrived: 0,
+            duplicates: 0,
+            inorder: 0,
+            next: 1,
+            kept: 0,
+            greatest: 0,
+            runs: Runs {
+                closed: 0,
+                squares: 0,
+                current: 0,
+            },
+            dropped: 0,
+        }
     }
-}
 
-// Returns the numbers after a reordered packet.
-pub(crate) fn after_reordered(s: Stream, number: u32, time: u64) -> Stream
-    requires { StreamFit s × (number ≤ sent_most) }
-    ensures { result ≡ reordered_stream s number time }
-{
-    let runs = closed(s.runs);
-    Stream {
-        sent: s.sent,
-        arrived: s.arrived + 1,
-        duplicates: s.duplicates,
-        inorder: s.inorder,
-        next: next_after(s.next, number),
-        kept: s.kept,
-        greatest: next_reference(s.greatest, time),
-        runs,
-        dropped: s.dropped,
+    // Returns whether the numbers are fit.
+    pub(crate) fn is_fit(&self) -> bool
+        ensures { result ≡ stream_fit self.now }
+    {
+        if self.sent == 0 || Receiver::PACKETS < self.sent {
+            return false;
+        }
+        if self.sent < self.arrived || Receiver::PACKETS - self.arrived < self.duplicates {
+            return false;
+        }
+        if self.arrived < self.inorder || self.inorder < self.runs.current {
+            return false;
+        }
+        if self.arrived < self.runs.closed || SQUARES_MOST < self.runs.squares {
+            return false;
+        }
+        self.next != 0 && self.next - 1 <= self.sent
     }
-}
 
-// Returns the runs after an in-order packet.
-fn lengthened(runs: Runs) -> Runs
-    requires { runs.current ≤ sent_most }
-    ensures { result ≡ lengthened runs }
-{
-    Runs {
-        closed: runs.closed,
-        squares: runs.squares,
-        current: runs.current + 1,
+    // Counts a duplicate.
+    #[tactic(auto, unfolding(crate::specs::Step::duplicate_stream))]
+    pub(crate) fn count_duplicate(&mut self, time: u64)
+        requires { self.old.duplicates ≤ sent_most }
+        ensures { self.new ≡ duplicate_stream self.old time }
+    {
+        self.duplicates += 1;
+        self.greatest = next_reference(self.greatest, time);
+    }
+
+    // Counts an in-order packet, but for the jump that it may make, which `Places::keep` counts.
+    #[tactic(auto, unfolding(rfc4737::specs::Runs::lengthened))]
+    pub(crate) fn count_in_order(&mut self, number: u32, time: u64)
+        requires { StreamFit self.old × (number ≤ sent_most) }
+        ensures { self.new ≡ counted_in_order self.old number time }
+    {
+        self.arrived += 1;
+        self.inorder += 1;
+        self.runs.current += 1;
+        self.next = next_after(self.next, number);
+        self.greatest = next_reference(self.greatest, time);
+    }
+
+    // Counts a reordered packet, which closes the open run.
+    #[tactic(auto, unfolding(crate::specs::Step::reordered_stream))]
+    pub(crate) fn count_reordered(&mut self, number: u32, time: u64)
+        requires { StreamFit self.old × (number ≤ sent_most) }
+        ensures { self.new ≡ reordered_stream self.old number time }
+    {
+        self.arrived += 1;
+        self.runs = closed(self.runs);
+        self.next = next_after(self.next, number);
+        self.greatest = next_reference(self.greatest, time);
     }
 }
 
@@ -99,10 +98,7 @@ fn next_after(next: u32, number: u32) -> u32
     requires { number ≤ sent_most }
     ensures { result ≡ next_after next number }
 {
-    if next <= number {
-        return number + 1;
-    }
-    next
+    if next <= number { number + 1 } else { next }
 }
 
 // Returns the runs after a reordered packet.

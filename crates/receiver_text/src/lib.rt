@@ -1,7 +1,5 @@
-// What the programs of cases for receivers and meters share: they print the outcome of an arrival, and compare two states.
+// What the programs of cases for receivers and meters share: they print the outcome of an arrival.
 #![tactic(auto)]
-
-pub mod same;
 
 use cases::print::{write_number, write_word};
 use receiver::{Lateness, Outcome, ReceiverAnswer};
@@ -10,10 +8,9 @@ use std::io;
 
 // Prints the extent and the late time of a reordered packet; a late time before has a minus.
 fn write_late(rt: &impl Print, word: &[u8], lateness: Lateness) -> io::Result<()> {
-    let late = lateness.late;
     write_word(rt, word)?;
-    write_number(rt, b" extent ", lateness.extent as u64)?;
-    match late {
+    write_number(rt, b" extent ", lateness.extent)?;
+    match lateness.late {
         LateTime::After(t) => write_number(rt, b" late ", t),
         LateTime::Before(t) => write_number(rt, b" late -", t),
     }
@@ -23,7 +20,7 @@ fn write_late(rt: &impl Print, word: &[u8], lateness: Lateness) -> io::Result<()
 fn write_noted(rt: &impl Print, noted: ReceiverAnswer) -> io::Result<()> {
     match noted {
         ReceiverAnswer::Duplicate => write_word(rt, b"duplicate"),
-        ReceiverAnswer::InOrder(jump) => write_number(rt, b"in order, jump ", jump as u64),
+        ReceiverAnswer::InOrder(jump) => write_number(rt, b"in order, jump ", jump),
         ReceiverAnswer::Exact(lateness) => write_late(rt, b"reordered,", lateness),
         ReceiverAnswer::Beyond(lateness) => write_late(rt, b"beyond the window,", lateness),
     }
@@ -31,10 +28,9 @@ fn write_noted(rt: &impl Print, noted: ReceiverAnswer) -> io::Result<()> {
 
 // Prints the outcome of an arrival: the refusal, or what the receiver notes.
 pub fn write_outcome(rt: &impl Print, outcome: Outcome) -> io::Result<()> {
-    let noted = outcome.noted;
     if outcome.refusal != 0 {
-        write_number(rt, b"refused ", outcome.refusal as u64)
+        write_number(rt, b"refused ", outcome.refusal)
     } else {
-        write_noted(rt, noted)
+        write_noted(rt, outcome.noted)
     }
 }

@@ -1,31 +1,46 @@
 -- The judge goes from the front with the reference, and at each arrival the first refusal that applies is the arrival's own or that of
 -- those after it. So a loop keeps that the refusal of all arrivals is that of those left, from the reference: it stops with the refusal
--- of the arrival at i (`judge-stop`), goes on where that is none (`judge-next`), and at the end none applies (`judge-done`). By the record
--- that `judge_next` returns these are `judged-stop` and `judged-next`. Where none is refused, the first arrival is not, nor one of the
--- others (`judge-split`). So by induction on the list every number lies in 1 to k (`judged-number`), and no time is over 1,000 below an
--- earlier one (`judged-times`), since the reference is at least every earlier time (`reference-above`). `lists-fit` takes the four
--- refusals of K and lists apart in their order, and `fit-lists` puts them together. Here k is K, l are the arrivals, a is the one at i, z
--- what stands past the end, and r the refusal that was returned for a. Assumes nothing.
+-- of the arrival at i (`judge-stop`), goes on where that is none (`judge-next`), and at the end none applies (`judge-done`). Where none
+-- is refused, the first arrival is not, nor one of the others (`judge-split`). So by induction on the list every number lies in 1 to k
+-- (`judged-number`), and no time is over 1,000 below an earlier one (`judged-times`), since the reference is at least every earlier time
+-- (`reference-above`). `lists-fit` takes the four refusals of K and lists apart in their order, and `fit-lists` puts them together. Here
+-- k is K, l are the arrivals, a is the one at i, z what stands past the end, and r the refusal that was returned for a. Assumes nothing.
 use Prim.Native.Nat.{ℕ, zero, suc, ◌+◌, ◌-◌, ◌≤◌, ◌<◌}
 use native.Mathlib.Numerals.{add-one}
 use native.Mathlib.Omega.{arith}
-use mathlib.Core.Bool.{false, not}
-use mathlib.Core.Path.{◌≡◌, sym, ap, ◌∙◌}
+use mathlib.Core.Bool.{Bool, true, false, not, cond}
+use mathlib.Core.Path.{◌≡◌, refl, sym, ap, ◌∙◌}
 use mathlib.Core.List.{List, [], ◌∷◌}
 use borrow.Author.Tests.{ltb-false, eq-eqb, eqb-true, not-false}
 use lib.Dec.{eqb}
 use lib.ListN.{length, get_or, drop, drop_of_length-le}
 use lib.Seq.{drop-cons}
 use Rattle.rfc4737.specs.declared.Arrival.{Arrival}
-use Rattle.rfc4737.specs.declared.judge.Judged.{Judged}
-use Rattle.rfc4737.specs.Refusals.{outside, refusal_if, sent_outside, many_arrivals, number_outside, time_back, lists_differ}
+use Rattle.rfc4737.specs.declared.refusal.Refusal.{Refusal}
+use Rattle.rfc4737.specs.Refused.{number_of}
+use Rattle.rfc4737.specs.Refusals.{outside, refusal_if, first_refusal, sent_outside, many_arrivals, number_outside, time_back, lists_differ}
 use Rattle.rfc4737.specs.Times.{back_most, too_early, next_reference}
 use Rattle.rfc4737.specs.Judge.{sent_most, arrivals_most, arrivals_from, judge_sent, judge_arrivals, judge_one, judge, refusal_of_lists}
 use Rattle.rfc4737.proofs.Due.{first-none, each_none, first-stop, first_next, first_one, case-none, limit-none, not-outside}
 use Rattle.rfc4737.proofs.Lists.{All}
 use Rattle.rfc4737.proofs.Packets.{OfPackets}
 use Rattle.rfc4737.proofs.Times.{reference-above}
+use Rattle.rfc4737.proofs.Refused.{first-err}
 use Rattle.rfc4737.proofs.Pairs.{arrivals-length, arrivals-get_or}
+
+-- ---- one arrival
+
+-- its refusal, by the two tests
+pub judge_one_by_tests : (k reference number time : ℕ)
+    → judge_one k reference (record { number = number; time = time })
+    ≡ cond (outside 1 k number) number_outside (cond (too_early reference time) time_back 0)
+unfolding judge_one
+judge_one_by_tests k reference number time = go (outside 1 k number) (too_early reference time)
+  where
+    go : (t u : Bool) → first_refusal (refusal_if t number_outside ∷ refusal_if u time_back ∷ []) ≡ cond t number_outside (cond u time_back 0)
+    go true u = refl
+    go false true = refl
+    go false false = refl
 
 -- ---- a loop over a list l of arrivals, `a` the one at i: before it the whole is as what is left, `judge k 0 l ≡ judge k reference (drop
 -- i l)`
@@ -50,20 +65,24 @@ module _ (k : ℕ) (l : List Arrival) (reference i : ℕ) (z a : Arrival) (h : i
       ∙ first_one (judge k (next_reference reference a.time) (drop (suc i) l))
       ∙ ap (λ (n : ℕ). judge k (next_reference reference a.time) (drop n l)) (sym (add-one i))
 
-  -- the same by what `judge_next` ensures of it
-  module _ (j : Judged) (e : j ≡ record { refusal = judge_one k reference a; reference = next_reference reference a.time }) where
-    pub judged-stop : (j.refusal ≡ 0 → ⊥) → j.refusal ≡ judge k 0 l
-    judged-stop n = judge-stop j.refusal (ap (λ (x : Judged). x.refusal) e) n
-
-    pub judged-next : j.refusal ≡ 0 → judge k 0 l ≡ judge k j.reference (drop (i + 1) l)
-    judged-next n =
-        judge-next j.refusal (ap (λ (x : Judged). x.refusal) e) n
-        ∙ ap (λ (x : Judged). judge k x.reference (drop (i + 1) l)) (sym e)
-
 -- at the end
 pub judge-done : (k : ℕ) (l : List Arrival) (reference i : ℕ) → length l ≤ i → judge k 0 l ≡ judge k reference (drop i l) → 0 ≡ judge k 0 l
 unfolding judge
 judge-done k l reference i h inv = sym (inv ∙ ap (judge k reference) (drop_of_length-le l h))
+
+-- ---- a loop over what is left of the arrivals, `a ∷ l`
+
+-- the first is refused
+pub left-err : (k reference : ℕ) (a : Arrival) (l : List Arrival) (d : Refusal) → number_of d ≡ judge_one k reference a
+    → number_of d ≡ judge k reference (a ∷ l)
+unfolding judge
+left-err k reference a l d e = rw (← e) (sym (first-err d (judge k (next_reference reference a.time) l ∷ [])))
+
+-- it is not refused
+pub left-ok : (k reference : ℕ) (a : Arrival) (l : List Arrival) → 0 ≡ judge_one k reference a
+    → judge k reference (a ∷ l) ≡ judge k (next_reference reference a.time) l
+unfolding judge
+left-ok k reference a l e = rw (← e) (first_one (judge k (next_reference reference a.time) l))
 
 -- ---- arrivals of which none is refused
 

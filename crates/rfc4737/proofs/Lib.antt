@@ -12,6 +12,7 @@ pub mod Offsets
 pub mod Needs
 pub mod Cases
 pub mod Due
+pub mod Refused
 pub mod JudgedInTurn
 pub mod Pairs
 pub mod Judged

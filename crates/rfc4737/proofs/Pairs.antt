@@ -3,6 +3,7 @@
 use Prim.Native.Nat.{ℕ, zero, suc, ◌<◌}
 use native.Mathlib.Omega.{arith}
 use mathlib.Core.Path.{◌≡◌, refl, ap}
+use mathlib.Core.Logic.{◌⊎◌, inl, inr}
 use mathlib.Core.List.{List, [], ◌∷◌}
 use lib.ListN.{length, get_or}
 use Rattle.rfc4737.specs.declared.Arrival.{Arrival}
@@ -14,6 +15,13 @@ unfolding arrivals_from
 arrivals-length [] ts h = refl
 arrivals-length (n ∷ ns) [] h = absurd (omega arith)
 arrivals-length (n ∷ ns) (t ∷ ts) h = ap suc (arrivals-length ns ts (omega arith))
+
+-- none if one of the lists has none
+pub arrivals-none : (ns ts : List ℕ) → (length ns ≡ 0) ⊎ (length ts ≡ 0) → arrivals_from ns ts ≡ []
+unfolding arrivals_from
+arrivals-none [] ts e = refl
+arrivals-none (n ∷ ns) [] e = refl
+arrivals-none (n ∷ ns) (t ∷ ts) e = elim e [ inl h ↦ absurd (omega arith) | inr h ↦ absurd (omega arith) ]
 
 -- each has the number and the time at its place
 pub arrivals-get_or : (ns ts : List ℕ) (i : ℕ) (z : Arrival) → length ts ≡ length ns → i < length ns

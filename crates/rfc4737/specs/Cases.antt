@@ -2,7 +2,7 @@
 -- the figures that must come of them; `CasesHold` says that the definitions give these figures. Unless a case says otherwise, K is the
 -- greatest number that arrives, every size is 100, and record r arrives at 10 times r. A ratio is written as the quotient of two counts;
 -- a table at the end gives some quotients as f64. Assumes nothing.
-use Rattle.std.specs.Prelude.{ℕ, ◌+◌, ◌-◌, ◌*◌, ◌≡◌, false, cond, pos, negsuc, Float, length, set, replicate}
+use Rattle.std.specs.Prelude.{ℕ, ◌+◌, ◌-◌, ◌*◌, ◌≡◌, false, cond, pos, negsuc, Float, length, set, replicate, Some, None}
 use mathlib.Core.List.{List, [], ◌∷◌, map, foldl, flatten}
 use Rattle.std.specs.Float.{fin}
 use Rattle.rfc4737.specs.declared.Arrival.{Arrival}
@@ -10,8 +10,6 @@ use Rattle.rfc4737.specs.declared.Answer.{Answer}
 use Rattle.rfc4737.specs.declared.Answer.TheVariants.{Duplicate, InOrder, Reordered}
 use Rattle.rfc4737.specs.declared.LateTime.TheVariants.{After, Before}
 use Rattle.rfc4737.specs.declared.Counts.{Counts}
-use Rattle.rfc4737.specs.declared.Gap.{Gap}
-use Rattle.rfc4737.specs.declared.Gap.TheVariants.{None, Positions}
 use Rattle.rfc4737.specs.declared.Ratios.{Ratios}
 use Rattle.rfc4737.specs.Arrivals.{each}
 use Rattle.rfc4737.specs.Extent.{size_in}
@@ -19,6 +17,7 @@ use Rattle.rfc4737.specs.Judge.{arrivals_from}
 use Rattle.rfc4737.specs.Ratios.{quotient}
 use Rattle.rfc4737.specs.Answer as answer
 use Rattle.rfc4737.specs.Gaps as gap
+use Rattle.rfc4737.specs.Gaps.{Gap}
 use Rattle.rfc4737.specs.Runs as run
 use Rattle.rfc4737.specs.Tally as tallying
 use Rattle.rfc4737.specs.Ratios as ratio
@@ -81,7 +80,7 @@ late_before position extent time offset largest =
 
 -- the gaps of n records: `places` has pairs of record and gap; the other records have none
 unfoldable pub with_gaps : ℕ → List (ℕ × ℕ) → List Gap
-with_gaps n places = foldl (λ (g : List Gap) (p : ℕ × ℕ). set g (p.0 - 1) (Positions p.1)) (replicate n None) places
+with_gaps n places = foldl (λ (g : List Gap) (p : ℕ × ℕ). set g (p.0 - 1) (Some p.1)) (replicate n None) places
 
 abbrev no_gaps : ℕ → List Gap
 no_gaps n = replicate n None

@@ -1,10 +1,8 @@
 -- Gaps between discontinuities (RFC 4737, section 4.5), over the answers of a sample. Assumes nothing.
-use Rattle.std.specs.Prelude.{ℕ, zero, suc, ◌-◌, Bool, true, false, cond, List, [], ◌∷◌, ◌++◌, map, eqb, ltb}
+use Rattle.std.specs.Prelude.{ℕ, zero, suc, ◌-◌, Bool, true, false, cond, Option as Maybe, Some, None, List, [], ◌∷◌, ◌++◌, map, eqb, ltb}
 use Rattle.std.proofs.Math.Option.{Option, none, some}
 use Rattle.rfc4737.specs.declared.Answer.{Answer}
 use Rattle.rfc4737.specs.declared.Answer.TheVariants.{Duplicate, InOrder, Reordered}
-use Rattle.rfc4737.specs.declared.Gap.{Gap}
-use Rattle.rfc4737.specs.declared.Gap.TheVariants.{None, Positions}
 use Rattle.rfc4737.specs.Runs.{arrived}
 
 -- whether an answer is that of a reordered packet whose discontinuity is at position p: its position less its extent
@@ -50,11 +48,15 @@ neighbour l zero = none
 neighbour l (suc zero) = none
 neighbour l (suc (suc q)) = cond (is_some (discoverer (suc q) l)) (some (suc q)) (neighbour l (suc q))
 
+-- the gap of a record in positions, if it has one; the code's `Option<u32>`
+abbrev pub Gap : Type 0
+Gap = Maybe ℕ
+
 -- the gap of position p over its neighbour: p less the neighbour exactly if that was discovered by an earlier reordered packet than p.
 -- So neither a position that is no discontinuity nor the first discontinuity has a gap
 unfoldable pub gap_over : List Answer → ℕ → Option ℕ → Gap
 gap_over l p none = None
-gap_over l p (some q) = cond (earlier (discoverer q l) (discoverer p l)) (Positions (p - q)) None
+gap_over l p (some q) = cond (earlier (discoverer q l) (discoverer p l)) (Some (p - q)) None
 
 -- the gap of a record with this position, if it has one; a duplicate has no gap
 unfoldable pub gap_of : List Answer → Option ℕ → Gap

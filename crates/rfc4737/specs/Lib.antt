@@ -12,6 +12,7 @@ pub mod Ratios
 pub mod Needs
 pub mod Cases
 pub mod Refusals
+pub mod Refused
 pub mod Judge
 pub mod Reordered
 pub mod Moved

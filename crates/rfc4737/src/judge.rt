@@ -1,10 +1,11 @@
 // Checks K and the arrivals. Files, text logs and lists share these functions.
-ghost use Rattle.std.specs.Prelude.{◌≡◌, length};
+ghost use Rattle.std.specs.Prelude.{◌≡◌, length, IfOk};
 ghost use Rattle.rfc4737.specs.Refusals.{outside};
+ghost use Rattle.rfc4737.specs.Refused.{refusal_in};
 ghost use Rattle.rfc4737.specs.Times.{next_reference};
 ghost use Rattle.rfc4737.specs.Judge.{arrivals_from, judge_one, judge, refusal_of_lists};
 
-use crate::refusal::{LISTS_DIFFER, MANY_ARRIVALS, NUMBER_OUTSIDE, SENT_OUTSIDE, TIME_BACK};
+use crate::refusal::Refusal;
 use crate::time::{next_reference, too_early};
 
 // The greatest number of sent packets.
@@ -14,93 +15,66 @@ pub const SENT_MOST: u64 = 4096;
 pub const ARRIVALS_MOST: u64 = 4096;
 
 // Whether `n` lies outside `low` to `high`.
+#[tactic(auto, unfolding(crate::specs::Refusals::outside))]
 pub fn outside(low: u64, high: u64, n: u64) -> bool
     ensures { result ≡ outside low high n }
 {
-    if n < low {
-        return true;
-    }
-    if high < n {
-        return true;
-    }
-    false
+    n < low || high < n
 }
 
-// The refusal of one arrival, 0 for none: 6 comes before 7.
-pub fn judge_one(k: u64, reference: u64, number: u64, time: u64) -> u32
-    ensures { result ≡ judge_one k reference (record { number = number; time = time }) }
+// Judges one arrival: 6 comes before 7.
+#[tactic(auto, using(crate::proofs::Judged::judge_one_by_tests))]
+pub fn judge_one(k: u64, reference: u64, number: u64, time: u64) -> Result<(), Refusal>
+    ensures { refusal_in result ≡ judge_one k reference (record { number = number; time = time }) }
 {
-    let number_outside = outside(1, k, number);
-    let time_back = too_early(reference, time);
-    if number_outside {
-        return NUMBER_OUTSIDE;
+    if outside(1, k, number) {
+        return Err(Refusal::NumberOutside);
     }
-    if time_back {
-        return TIME_BACK;
+    if too_early(reference, time) {
+        return Err(Refusal::TimeBack);
     }
-    0
+    Ok(())
 }
 
-// The judgement of one arrival: the refusal (0 for none), and the reference for the time of the next arrival.
-#[derive(Clone, Copy)]
-pub struct Judged {
-    pub refusal: u32,
-    pub reference: u64,
-}
-
-// Judges the next of several arrivals. Most arrivals have a number in 1 to K and a time that does not go back, and take two tests; all
-// others go to `judge_one`.
-pub fn judge_next(k: u64, reference: u64, number: u64, time: u64) -> Judged
-    ensures { result ≡ record {
-      refusal = judge_one k reference (record { number = number; time = time });
-      reference = next_reference reference time;
-    } }
+// Judges the next of several arrivals; returns the reference for the time of the one after it. Most arrivals have a number in 1 to K and
+// a time that does not go back, and take two tests; all others go to `judge_one`.
+#[tactic(auto, using(crate::proofs::Judged::judge_one_by_tests), unfolding(crate::specs::Times::too_early, crate::specs::Times::next_reference))]
+pub fn judge_next(k: u64, reference: u64, number: u64, time: u64) -> Result<u64, Refusal>
+    ensures refusal { refusal_in result ≡ judge_one k reference (record { number = number; time = time }) }
+    ensures next { IfOk result (λ r. r ≡ next_reference reference time) }
 {
-    if reference <= time {
-        if !outside(1, k, number) {
-            return Judged {
-                refusal: 0,
-                reference: time,
-            };
-        }
+    if reference <= time && !outside(1, k, number) {
+        return Ok(time);
     }
-    Judged {
-        refusal: judge_one(k, reference, number, time),
-        reference: next_reference(reference, time),
-    }
+    judge_one(k, reference, number, time)?;
+    Ok(next_reference(reference, time))
 }
 
-// The first refusal of the arrivals of two lists, 0 for none.
-fn judge_lists(k: u64, numbers: &[u32], times: &[u64]) -> u32
+// Judges the arrivals of two lists in turn.
+fn judge_lists(k: u64, numbers: &[u32], times: &[u64]) -> Result<(), Refusal>
     requires { length times.now ≡ length numbers.now }
-    ensures { result ≡ judge k 0 (arrivals_from numbers.now times.now) }
+    ensures { refusal_in result ≡ judge k 0 (arrivals_from numbers.now times.now) }
 {
-    let mut reference: u64 = 0;
-    let mut i = 0;
-    while i < numbers.len() {
-        let time = times[i];
-        let judged = judge_next(k, reference, numbers[i] as u64, time);
-        if judged.refusal != 0 {
-            return judged.refusal;
-        }
-        reference = judged.reference;
-        i += 1;
+    let mut reference = 0;
+    for (number, time) in numbers.iter().zip(times) {
+        reference = judge_next(k, reference, *number as u64, *time)?;
     }
-    0
+    Ok(())
 }
 
-// The first refusal that applies to K and the lists, 0 if none does.
-pub fn refusal_of_lists(k: u64, numbers: &[u32], times: &[u64]) -> u32
-    ensures { result ≡ refusal_of_lists k numbers.now times.now }
+// Judges K and the lists: the first refusal that applies, as `refusal_of_lists` of specs/Judge says.
+#[tactic(auto, unfolding(crate::specs::Judge::refusal_of_lists))]
+pub fn check_lists(k: u64, numbers: &[u32], times: &[u64]) -> Result<(), Refusal>
+    ensures { refusal_in result ≡ refusal_of_lists k numbers.now times.now }
 {
     if outside(1, SENT_MOST, k) {
-        return SENT_OUTSIDE;
+        return Err(Refusal::SentOutside);
     }
     if outside(0, ARRIVALS_MOST, numbers.len() as u64) {
-        return MANY_ARRIVALS;
+        return Err(Refusal::ManyArrivals);
     }
     if numbers.len() != times.len() {
-        return LISTS_DIFFER;
+        return Err(Refusal::ListsDiffer);
     }
     judge_lists(k, numbers, times)
 }

@@ -63,7 +63,7 @@ pub enum Answer {
 
 // The runs of in-order packets: the number of closed runs, the sum of the squares of their lengths, and the
 // length of the open run.
-#[derive(Clone, Copy)]
+#[derive(Clone, Copy, PartialEq, Eq)]
 #[repr(C)]
 pub struct Runs {
     pub closed: u32,
@@ -82,14 +82,8 @@ pub struct Counts {
     pub runs: Runs,
 }
 
-// The gap of a discontinuity, in positions, if it has one.
-#[derive(Clone, Copy)]
-pub enum Gap {
-    None,
-    Positions(u32),
-}
-
-// A ratio of two counts, undefined if the denominator is 0.
+// A ratio of two counts, undefined if the denominator is 0. An enum with an undefined case, as the scope names the form:
+// no number stands in for an undefined ratio.
 #[derive(Clone, Copy)]
 pub enum Ratio {
     Undefined,
@@ -104,7 +98,7 @@ pub struct RatioFigures {
     pub degree3: f64,
 }
 
-// The ratio figures of a sample, undefined if it has no first arrival.
+// The ratio figures of a sample, undefined if it has no first arrival; the form is that of `Ratio`.
 #[derive(Clone, Copy)]
 pub enum Ratios {
     Undefined,

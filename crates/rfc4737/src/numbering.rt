@@ -29,7 +29,6 @@ pub fn amount(late: LateTime) -> u64
     ensures { result ≡ amount_of late }
 {
     match late {
-        LateTime::After(t) => t,
-        LateTime::Before(t) => t,
+        LateTime::After(t) | LateTime::Before(t) => t,
     }
 }

@@ -1,39 +1,49 @@
-// The numbers returned instead of an answer; 0 is no refusal. specs/Refusals.antt says each case.
+// What is returned instead of an answer. specs/Refusals.antt says the case of each refusal and its number; 0 is the number of none.
 
+ghost use Rattle.std.specs.Prelude.{◌≡◌};
+ghost use Rattle.rfc4737.specs.Refused.{number_of, refusal_in};
+
+// The refusals, in the order of their numbers.
+#[derive(Clone, Copy, Debug, PartialEq, Eq)]
+pub enum Refusal {
+    EndsEarly = 1,
+    OctetsFollow,
+    LongLabel,
+    SentOutside,
+    ManyArrivals,
+    NumberOutside,
+    TimeBack,
+    OutputShort,
+    AskedOutside,
+    StateUnfit,
+    StateFull,
+    ListsDiffer,
+    OctetOutside,
+    LineMalformed,
+    RecordCut,
+    NoStream,
+    FragmentUnfit,
+    SecondsOver,
+}
+
+impl Refusal {
+    // The refusal's number, 1 to 18. A method and not `From`, since it is asked of a refusal that was just returned, as `refusal.number()`.
+    pub fn number(self) -> u32
+        ensures { result ≡ number_of self }
+    {
+        self as u32
+    }
+}
+
+// The number of no refusal, for answers that C receives.
 pub const NONE: u32 = 0;
 
-pub const ENDS_EARLY: u32 = 1;
-
-pub const OCTETS_FOLLOW: u32 = 2;
-
-pub const LONG_LABEL: u32 = 3;
-
-pub const SENT_OUTSIDE: u32 = 4;
-
-pub const MANY_ARRIVALS: u32 = 5;
-
-pub const NUMBER_OUTSIDE: u32 = 6;
-
-pub const TIME_BACK: u32 = 7;
-
-pub const OUTPUT_SHORT: u32 = 8;
-
-pub const ASKED_OUTSIDE: u32 = 9;
-
-pub const STATE_UNFIT: u32 = 10;
-
-pub const STATE_FULL: u32 = 11;
-
-pub const LISTS_DIFFER: u32 = 12;
-
-pub const OCTET_OUTSIDE: u32 = 13;
-
-pub const LINE_MALFORMED: u32 = 14;
-
-pub const RECORD_CUT: u32 = 15;
-
-pub const NO_STREAM: u32 = 16;
-
-pub const FRAGMENT_UNFIT: u32 = 17;
-
-pub const SECONDS_OVER: u32 = 18;
+// The number of the refusal in a result, `NONE` if it has none. A function and no `From`: both types are another crate's.
+pub fn number_in<T: Drop>(checked: Result<T, Refusal>) -> u32
+    ensures { result ≡ refusal_in checked }
+{
+    match checked {
+        Ok(_) => NONE,
+        Err(refusal) => refusal.number(),
+    }
+}

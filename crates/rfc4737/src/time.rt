@@ -10,6 +10,7 @@ use crate::LateTime;
 pub const BACK_MOST: u64 = 1000;
 
 // Whether `time` is over `BACK_MOST` below the reference, which is the greatest earlier time.
+#[tactic(auto, unfolding(crate::specs::Times::too_early))]
 pub fn too_early(reference: u64, time: u64) -> bool
     ensures { result ≡ too_early reference time }
 {
@@ -20,6 +21,7 @@ pub fn too_early(reference: u64, time: u64) -> bool
 }
 
 // The reference for the next arrival: the greater of `reference` and `time`.
+#[tactic(auto, unfolding(crate::specs::Times::next_reference))]
 pub fn next_reference(reference: u64, time: u64) -> u64
     ensures { result ≡ next_reference reference time }
 {
@@ -30,6 +32,7 @@ pub fn next_reference(reference: u64, time: u64) -> u64
 }
 
 // The time from an arrival at `past` to one at `own`, with its direction.
+#[tactic(auto, unfolding(crate::specs::Times::elapsed))]
 pub fn elapsed(past: u64, own: u64) -> LateTime
     ensures { result ≡ elapsed past own }
 {

@@ -1,9 +1,9 @@
 -- What the reader and the writer return, by cases. The reader: the file is refused, a list is too short (8), or the lists are filled. The
 -- first refusal that applies decides the result of `decode_into`, and with it the answer and the lists. If nothing is refused, the counts
--- are those of the file, so the values read by the layout are those of its sections (`read-filled`). The writer: the label or a list is
--- refused, the buffer is too short, or three sections are written one after the other, which is one write of the file from the start
--- (`write-filled`). Here y is the layout that `check` returns, e says that it is the file's, z that it has no refusal; n is a refusal;
--- sizes', numbers', times' and out' are the caller's lists and buffer after the call. Assumes nothing.
+-- are those of the file, so the values read by the layout are those of its sections (`read-filled`). The writer: the buffer is too short,
+-- or three sections are written one after the other, which is one write of the file from the start (`write-filled`). Here y is the layout
+-- that `check` returns, e says that it is the file's, z that it has no refusal; n is a refusal; sizes', numbers', times' and out' are the
+-- caller's lists and buffer after the call. Assumes nothing.
 use Prim.Native.Nat.{ℕ, ◌+◌, ◌*◌, ◌≤◌, ◌<◌, zero-le}
 use native.Mathlib.Omega.{arith}
 use mathlib.Core.Bool.{true, false, ◌||◌}
@@ -28,7 +28,7 @@ use Rattle.rfc4737.proofs.Pairs.{arrivals-length}
 use Rattle.sample.proofs.Items.{size-long, octets-many}
 use Rattle.sample.proofs.Decoded.{refused_none, decided-refusal, decode-accepted, decode-refused, layout-accepted}
 use Rattle.sample.proofs.Exact.{section-length, file-length}
-use Rattle.sample.proofs.Output.{output-refused, output-short, output-written}
+use Rattle.sample.proofs.Output.{output-short, output-written}
 
 -- ---- what was found, y, is the layout of the file
 
@@ -159,11 +159,6 @@ module _ (file sizes numbers times : List ℕ) where
 -- ---- the writer
 
 module _ (label sizes numbers times out : List ℕ) where
-  -- the label or a list is refused
-  pub write-refused : (n : ℕ) → (n ≡ 0 → ⊥) → n ≡ sample_refusal label sizes numbers times
-      → WrittenTo label sizes numbers times out (record { refusal = n; length = 0 }) out
-  write-refused n h e = output-refused (sample_refusal label sizes numbers times) (file_of (sample_from label sizes numbers times)) out n e h
-
   module _ (e : 0 ≡ sample_refusal label sizes numbers times) (same : length times ≡ length numbers)
       (end : ℕ) (ends : end ≡ last_end (length label) (length sizes) (length numbers)) where
     -- the file's length

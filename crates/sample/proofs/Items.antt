@@ -1,16 +1,15 @@
 -- Items of `width` octets each, one after the other. By induction on their number item i stands at width * i (`items-get_or`,
 -- `items-stand`), and there are width times as many octets as items (`octets-many`). Where each item, written, reads back as itself so do
--- all of them (`read-written`), and where each item's octets, read, are written back as themselves so are all octets (`written_read`):
--- both by splitting off the first item. Then an arrival, two numbers one after the other, and a size, one number, have this. Last come
--- their values, as the loops find them in the part that is taken for each. Here `item` reads an item from its octets and `octets` writes
--- it; xs are items, os octets, n or count a number of items, at and start are offsets, i an item's index, z what is read past the end, a
--- an arrival. Assumes nothing.
+-- all of them (`read-written`), and where each item's octets, read, are written back as themselves so are all octets (`written_read`): both
+-- by splitting off the first item. Then an arrival, two numbers one after the other, and a size, one number, have this. Here `item` reads
+-- an item from its octets and `octets` writes it; xs are items, os octets, n or count a number of items, at and start are offsets, i an
+-- item's index, z what is read past the end, a an arrival. Assumes nothing.
 use Prim.Native.Nat.{ℕ, zero, suc, ◌+◌, ◌*◌, ◌^◌, ◌-◌, ◌≤◌, ◌<◌}
 use native.Mathlib.Nat.{mul-zero, mul-suc}
 use native.Mathlib.Omega.{arith}
 use mathlib.Core.Path.{◌≡◌, refl, sym, ap, ap₂, ◌∙◌, subst}
-use mathlib.Core.List.{List, [], ◌∷◌, ◌++◌, map, append_assoc, append-nil}
-use lib.ListN.{length, get_or, take, drop, length-append, length-take, length-drop, length-map, take-append-drop, get_or-map}
+use mathlib.Core.List.{List, [], ◌∷◌, ◌++◌, append_assoc, append-nil}
+use lib.ListN.{length, get_or, take, drop, length-append, length-take, length-drop, take-append-drop}
 use lib.Seq.{take_all, take_at, drop_at, drop-drop, take-add, length-take-le}
 use Rattle.octets.specs.Below.{Octets}
 use Rattle.octets.specs.BigEndian.{be_value, be_octets}
@@ -21,7 +20,6 @@ use Rattle.octets.proofs.Memory.{take_snoc, part-part, part-most, taken, taken-p
 use Rattle.rfc4737.specs.declared.Arrival.{Arrival}
 use Rattle.sample.specs.Format.{size_width, number_width, time_width, arrival_width, item_octets, items_in, size_octets, arrival_octets}
 use Rattle.sample.specs.Decode.{arrival_in}
-use Rattle.sample.specs.Places.{no_arrival}
 
 -- the value of `width` octets of a file fits them
 pub part-fits : (width at : ℕ) (file : List ℕ) → Octets file → be_value (part at width file) < 256 ^ width
@@ -160,22 +158,6 @@ pub arrival-taken : (start : ℕ) (file : List ℕ) {a : Arrival} → a ≡ arri
 arrival-taken start file e =
     let w : start + arrival_width - start ≡ arrival_width = omega arith in
     e ∙ ap (λ (n : ℕ). arrival_in (part start n file)) w
-
-module _ (value : Arrival → ℕ) (count at : ℕ) (file : List ℕ) where
-  -- a value of each of the `count` arrivals from offset `at` on
-  abbrev pub values_from : List ℕ
-  values_from = map value (items_in arrival_width arrival_in count (drop at file))
-
-  pub values-many : length values_from ≡ count
-  values-many =
-      length-map (items_in arrival_width arrival_in count (drop at file)) value ∙ items-length arrival_width arrival_in count (drop at file)
-
-  -- that of the arrival that is read at i
-  pub value_found : (i : ℕ) {a : Arrival} → i < count → a ≡ arrival_in (part (at + arrival_width * i) arrival_width file)
-      → value a ≡ get_or values_from i (value no_arrival)
-  value_found i h e =
-      ap value (e ∙ sym (items-stand arrival_width arrival_in count at file i no_arrival h))
-      ∙ sym (get_or-map value (items_in arrival_width arrival_in count (drop at file)) i no_arrival)
 
 -- ---- a size
 

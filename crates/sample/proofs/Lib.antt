@@ -13,3 +13,4 @@ pub mod Accepted
 pub mod OfSample
 pub mod Longer
 pub mod Moved
+pub mod Chunks

@@ -7,7 +7,7 @@
 use Prim.Native.Nat.{ℕ, suc, ◌+◌, ◌*◌, ◌-◌, ◌≤◌, ◌<◌}
 use native.Mathlib.Nat.{mul-suc, mul-le-mul, le_refl}
 use native.Mathlib.Omega.{arith}
-use mathlib.Core.Path.{◌≡◌, sym, ap, ◌∙◌}
+use mathlib.Core.Path.{◌≡◌, sym, ap, ◌∙◌, subst}
 use mathlib.Core.List.{List, ◌++◌}
 use lib.ListN.{length, get_or, take, drop, length-take}
 use lib.Seq.{take_all}
@@ -63,6 +63,15 @@ module _ {ℓ} {A : Type ℓ} (octets : A → List ℕ) (width : ℕ) (long : (x
         ∙ ap (splice (at + width * i) (octets (get_or xs i z))) inv
         ∙ splice-next at (at + width * i) (item_octets octets (take i xs)) (octets (get_or xs i z)) old s t
         ∙ ap (λ (os : List ℕ). splice at os old) (sym (octets-snoc octets xs i z h))
+
+    -- the same, where the part begins at `start`
+    pub write-from : (z : A) (start : ℕ) {lent : List ℕ} → start ≡ at + width * i → i < length xs
+        → lent ≡ put 0 (octets (get_or xs i z)) (taken start width d)
+        → take start d ++ (lent ++ drop (start + width - start) (drop start d)) ≡ splice at (item_octets octets (take (i + 1) xs)) old
+    write-from z start {lent} s h =
+        let P : ℕ → Type 0 = λ n. lent ≡ put 0 (octets (get_or xs i z)) (taken n width d)
+        → take n d ++ (lent ++ drop (n + width - n) (drop n d)) ≡ splice at (item_octets octets (take (i + 1) xs)) old in
+        subst P (sym s) (write-next z h)
 
     -- at the end
     pub write_done : length xs ≤ i → d ≡ splice at (item_octets octets xs) old

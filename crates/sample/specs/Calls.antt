@@ -1,6 +1,8 @@
 -- What the calls return, and what lent memory (the caller's buffers) holds after them. Assumes nothing.
-use Rattle.std.specs.Prelude.{ℕ, Bool, cond, ◌||◌, List, ◌≡◌, ltb, length}
+use Rattle.std.specs.Prelude.{ℕ, Bool, cond, ◌||◌, Result, Ok, Err, List, ◌≡◌, ltb, length}
 use Rattle.octets.specs.Memory.{over}
+use Rattle.rfc4737.specs.declared.refusal.Refusal.{Refusal}
+use Rattle.rfc4737.specs.Refused.{number_of}
 use Rattle.rfc4737.specs.Refusals.{output_short}
 use Rattle.rfc4737.specs.Judge.{numbers_of, times_of, arrivals_from}
 use Rattle.sample.specs.Format.{Sample, items_at, file_of}
@@ -9,6 +11,13 @@ use Rattle.sample.specs.Decode.{Decoded, refused, accepted, decode, sample_of, l
 use Rattle.sample.specs.Output.{Output}
 use Rattle.sample.specs.declared.Layout.{Layout}
 use Rattle.sample.specs.declared.WriteAnswer.{WriteAnswer}
+
+-- ---- the check
+
+-- the layout of a file that was checked, also of a refused one
+abbrev pub layout_in : Result Layout Refusal → Layout
+layout_in (Ok layout) = layout
+layout_in (Err refusal) = layout_of (refused (number_of refusal))
 
 -- ---- the label
 

@@ -1,8 +1,15 @@
 -- The answer of a call that writes octets, and the caller's buffer after it. Assumes nothing.
-use Rattle.std.specs.Prelude.{ℕ, zero, suc, List, [], ◌∷◌, ◌≡◌, ltb, length}
+use Rattle.std.specs.Prelude.{ℕ, zero, suc, Result, Ok, Err, List, [], ◌∷◌, ◌≡◌, ltb, length}
 use Rattle.octets.specs.Memory.{over}
+use Rattle.rfc4737.specs.declared.refusal.Refusal.{Refusal}
+use Rattle.rfc4737.specs.Refused.{number_of}
 use Rattle.rfc4737.specs.Refusals.{refusal_if, first_refusal, output_short}
 use Rattle.sample.specs.declared.WriteAnswer.{WriteAnswer}
+
+-- the answer of a writer: the number of octets written, or the refusal's number and 0
+abbrev pub answer_in : Result ℕ Refusal → WriteAnswer
+answer_in (Ok length) = record { refusal = 0; length = length }
+answer_in (Err refusal) = record { refusal = number_of refusal; length = 0 }
 
 module _ {ℓ} {A : Type ℓ} where
   -- `done` if `refusal` is 0, else `kept`

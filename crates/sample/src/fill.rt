@@ -15,9 +15,7 @@ pub(crate) fn fill_sizes(file: &[u8], at: usize, count: usize, sizes: &mut [u16]
     requires { (at + size_width * count ≤ length file.now) × (count ≤ length sizes.old) }
     ensures { sizes.new ≡ over (items_in size_width be_value count (drop at file.now)) sizes.old }
 {
-    let mut i = count;
-    while 0 < i {
-        i -= 1;
+    for i in (0..count).rev() {
         let start = at + SIZE_WIDTH * i;
         let end = start + SIZE_WIDTH;
         let size = &file[start..end];
@@ -38,14 +36,10 @@ pub(crate) fn fill_arrivals(
         ≡ over (numbers_of (items_in arrival_width arrival_in count (drop at file.now))) numbers.old)
         × (times.new ≡ over (times_of (items_in arrival_width arrival_in count (drop at file.now))) times.old) }
 {
-    let mut i = 0;
-    while i < count {
-        let start = at + ARRIVAL_WIDTH * i;
-        let end = start + ARRIVAL_WIDTH;
-        let twelve = &file[start..end];
+    let items = &file[at..at + ARRIVAL_WIDTH * count];
+    for (i, twelve) in items.chunks_exact(ARRIVAL_WIDTH).enumerate() {
         let arrival = arrival_of(twelve);
         numbers[i] = arrival.number;
         times[i] = arrival.time;
-        i += 1;
     }
 }

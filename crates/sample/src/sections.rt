@@ -1,14 +1,16 @@
 // Reads and writes the sections of a file: a count, then the items.
-ghost use Rattle.std.specs.Prelude.{◌≡◌, ◌^◌, ◌≤◌, ◌<◌, length};
+ghost use Rattle.std.specs.Prelude.{◌≡◌, ◌^◌, ◌≤◌, ◌<◌, length, IfOk};
 ghost use Rattle.octets.specs.Memory.{splice};
 ghost use Rattle.rfc4737.specs.Judge.{arrivals_from};
 ghost use Rattle.sample.specs.Format.{octet_width, size_width, arrival_width, items_at, end_of, section, size_octets, arrival_octets, item_octets};
-ghost use Rattle.sample.specs.Decode.{count_at};
-ghost use Rattle.sample.specs.Private.{reading_to, section_reading, refusal_of_section};
+ghost use Rattle.rfc4737.specs.Refusals.{outside, refusal_if};
+ghost use Rattle.rfc4737.specs.Refused.{number_of, refusal_in};
+ghost use Rattle.sample.specs.Decode.{count_at, section_stage};
+ghost use Rattle.sample.specs.Private.{reading_to, section_of};
 
 use crate::widths::{ARRIVAL_WIDTH, COUNT_WIDTH, NUMBER_WIDTH, SIZE_WIDTH, TIME_WIDTH};
 use rfc4737::judge::outside;
-use rfc4737::refusal::ENDS_EARLY;
+use rfc4737::refusal::Refusal;
 
 // The offset after a section that begins at `at`, with `count` items of `width` octets each.
 pub(crate) fn end_of(at: usize, width: usize, count: usize) -> usize
@@ -18,39 +20,32 @@ pub(crate) fn end_of(at: usize, width: usize, count: usize) -> usize
     at + COUNT_WIDTH + width * count
 }
 
-// A value that was read, unless the file ends before it.
+// A section that the file has whole: the count of its items, and the offset after it.
 #[derive(Clone, Copy)]
-enum Reading {
-    Value(usize),
-    Ended,
+pub(crate) struct Section {
+    pub(crate) count: usize,
+    pub(crate) end: usize,
 }
 
-// A section: the count of its items and the offset after it, or its refusal.
-#[derive(Clone, Copy)]
-pub(crate) enum Section {
-    Whole(usize, usize),
-    Refused(u32),
-}
-
-// Reads the count at offset `at`.
-fn count_at(file: &[u8], at: usize) -> Reading
+// Reads the count at offset `at`; `None` if the file ends before it does.
+fn count_at(file: &[u8], at: usize) -> Option<usize>
     requires { at ≤ length file.now }
     ensures { result ≡ reading_to (items_at at) (count_at at file.now) file.now }
 {
     if file.len() < at + COUNT_WIDTH {
-        return Reading::Ended;
+        return None;
     }
-    Reading::Value(octets::number_at(file, at, COUNT_WIDTH) as usize)
+    Some(octets::number_at(file, at, COUNT_WIDTH) as usize)
 }
 
 // `place`, unless the file ends before that offset.
-fn place_in(file: &[u8], place: usize) -> Reading
+fn place_in(file: &[u8], place: usize) -> Option<usize>
     ensures { result ≡ reading_to place place file.now }
 {
     if file.len() < place {
-        return Reading::Ended;
+        return None;
     }
-    Reading::Value(place)
+    Some(place)
 }
 
 // Reads the section that begins at `at`: its count, which must be in `least` to `most` (else `refusal`), then its length.
@@ -60,31 +55,23 @@ pub(crate) fn section_at(
     width: usize,
     least: u64,
     most: u64,
-    refusal: u32,
-) -> Section
-    requires { (at ≤ length file.now) × (width ≤ arrival_width) × (0 < refusal) }
-    ensures { result ≡ section_reading at width least most refusal file.now }
+    refusal: Refusal,
+) -> Result<Section, Refusal>
+    requires { (at ≤ length file.now) × (width ≤ arrival_width) }
+    ensures refusal { refusal_in result
+        ≡ section_stage at width (λ n. refusal_if (outside least most n) (number_of refusal)) file.now }
+    ensures section { IfOk result (λ section. section ≡ section_of at width file.now) }
 {
-    let Reading::Value(count) = count_at(file, at) else {
-        return Section::Refused(ENDS_EARLY);
+    let Some(count) = count_at(file, at) else {
+        return Err(Refusal::EndsEarly);
     };
     if outside(least, most, count as u64) {
-        return Section::Refused(refusal);
+        return Err(refusal);
     }
-    let Reading::Value(end) = place_in(file, end_of(at, width, count)) else {
-        return Section::Refused(ENDS_EARLY);
+    let Some(end) = place_in(file, end_of(at, width, count)) else {
+        return Err(Refusal::EndsEarly);
     };
-    Section::Whole(count, end)
-}
-
-// The refusal of a section, 0 for a whole one.
-pub(crate) fn refusal_of_section(s: Section) -> u32
-    ensures { result ≡ refusal_of_section s }
-{
-    match s {
-        Section::Whole(_, _) => 0,
-        Section::Refused(refusal) => refusal,
-    }
+    Ok(Section { count, end })
 }
 
 // Writes the section of the label.
@@ -103,13 +90,11 @@ pub(crate) fn write_sizes(sizes: &[u16], out: &mut [u8], at: usize)
         ≡ splice at (section (length sizes.now) (item_octets size_octets sizes.now)) out.old }
 {
     octets::put_number(out, at, COUNT_WIDTH, sizes.len() as u64);
-    let mut i = 0;
-    while i < sizes.len() {
-        let start = at + COUNT_WIDTH + SIZE_WIDTH * i;
+    let mut start = at + COUNT_WIDTH;
+    for size in sizes {
         let end = start + SIZE_WIDTH;
-        let size = &mut out[start..end];
-        octets::put_number(size, 0, SIZE_WIDTH, sizes[i] as u64);
-        i += 1;
+        octets::put_number(&mut out[start..end], 0, SIZE_WIDTH, u64::from(*size));
+        start = end;
     }
 }
 
@@ -122,13 +107,12 @@ pub(crate) fn write_arrivals(numbers: &[u32], times: &[u64], out: &mut [u8], at:
         out.old }
 {
     octets::put_number(out, at, COUNT_WIDTH, numbers.len() as u64);
-    let mut i = 0;
-    while i < numbers.len() {
-        let start = at + COUNT_WIDTH + ARRIVAL_WIDTH * i;
+    let mut start = at + COUNT_WIDTH;
+    for (number, time) in numbers.iter().zip(times) {
         let end = start + ARRIVAL_WIDTH;
         let arrival = &mut out[start..end];
-        octets::put_number(arrival, 0, NUMBER_WIDTH, numbers[i] as u64);
-        octets::put_number(arrival, NUMBER_WIDTH, TIME_WIDTH, times[i]);
-        i += 1;
+        octets::put_number(arrival, 0, NUMBER_WIDTH, u64::from(*number));
+        octets::put_number(arrival, NUMBER_WIDTH, TIME_WIDTH, *time);
+        start = end;
     }
 }

@@ -10,9 +10,10 @@
 #![tactic(auto)]
 
 use cases::MAX_ARRIVALS;
-use cases::lists::{fill_32, fill_64, first_16, first_32, first_64};
+use cases::element::Element;
+use cases::lists::{fill, first};
+use cases::series::{Series, fill_series};
 use cases::text::{number, part};
-use std::num::{wrapping_add_u32, wrapping_add_u64, wrapping_sub_u64};
 
 // One octet more than the longest sample has.
 pub const ROOM: usize = sample::LONGEST + 1;
@@ -25,55 +26,48 @@ fn part_of(text: &[u8], n: usize) -> &[u8] {
     part(text, b';', n)
 }
 
-// Number i of part n of a text, modulo 2^32.
-fn number_in_part(text: &[u8], n: usize, i: usize) -> u32 {
-    (number(part_of(text, n), i) % 4_294_967_296) as u32
+// Number i of part n of a text, modulo one more than the greatest of its type.
+fn number_in_part<T: Element>(text: &[u8], n: usize, i: usize) -> T {
+    T::wrapped(number(part_of(text, n), i))
 }
 
-// The numbers of the arrivals, by `first` and `step`.
-fn numbers_by(first: u32, step: u32) -> [u32; MAX_ARRIVALS] {
+// The numbers of the arrivals, by a series.
+fn numbers_by(series: Series) -> [u32; MAX_ARRIVALS] {
     let mut numbers = [0u32; MAX_ARRIVALS];
-    let mut number = first;
-    for i in 0..MAX_ARRIVALS {
-        numbers[i] = number % PACKETS + 1;
-        number = wrapping_add_u32(number, step);
+    fill_series(&mut numbers, series);
+    for number in &mut numbers {
+        *number = *number % PACKETS + 1;
     }
     numbers
 }
 
-// (i + 1) % 5 * fall, if `below` is i % 5 * fall.
-fn fall_after(i: usize, below: u64, fall: u64) -> u64 {
-    if i % 5 == 4 {
-        return 0;
-    }
-    wrapping_add_u64(below, fall)
-}
-
-// The times of the arrivals, by `first`, `rise` and `fall`.
-fn times_by(first: u64, rise: u64, fall: u64) -> [u64; MAX_ARRIVALS] {
+// The times of the arrivals: those of a series, and of each five in a row the later ones less `fall`, twice `fall` and so on.
+fn times_by(series: Series, fall: u64) -> [u64; MAX_ARRIVALS] {
     let mut times = [0u64; MAX_ARRIVALS];
-    let mut time = first;
-    let mut below: u64 = 0;
-    for i in 0..MAX_ARRIVALS {
-        times[i] = wrapping_sub_u64(time, below);
-        time = wrapping_add_u64(time, rise);
-        below = fall_after(i, below, fall);
+    fill_series(&mut times, series);
+    for five in times.chunks_mut(5) {
+        let falls = Series {
+            next: 0,
+            step: fall,
+        };
+        for (time, below) in five.iter_mut().zip(falls) {
+            *time = time.wrapping_sub(below);
+        }
     }
     times
 }
 
 // Writes the sample of a text; returns its length. The text's own numbers and times replace the first ones of `numbers` and `times`.
 fn write_sample(text: &[u8], numbers: &mut [u32], times: &mut [u64], out: &mut [u8]) -> usize {
-    let size = (number_in_part(text, 1, 1) % 65_536) as u16;
-    let sizes = [size; MAX_ARRIVALS];
-    let arrivals = number_in_part(text, 2, 0) as usize;
-    fill_32(part_of(text, 4), numbers);
-    fill_64(part_of(text, 5), times);
+    let sizes = [number_in_part::<u16>(text, 1, 1); MAX_ARRIVALS];
+    let arrivals = number_in_part::<u32>(text, 2, 0) as usize;
+    fill(part_of(text, 4), numbers);
+    fill(part_of(text, 5), times);
     let written = sample::write(
         part_of(text, 0),
-        first_16(&sizes, number_in_part(text, 1, 0) as usize),
-        first_32(numbers, arrivals),
-        first_64(times, arrivals),
+        first(&sizes, number_in_part::<u32>(text, 1, 0) as usize),
+        first(numbers, arrivals),
+        first(times, arrivals),
         out,
     );
     written.length as usize
@@ -83,21 +77,27 @@ fn write_sample(text: &[u8], numbers: &mut [u32], times: &mut [u64], out: &mut [
 fn change_number(text: &[u8], out: &mut [u8]) {
     octets::put_number(
         out,
-        number_in_part(text, 6, 0) as usize,
-        number_in_part(text, 6, 1) as usize,
-        number(part_of(text, 6), 2),
+        number_in_part::<u32>(text, 6, 0) as usize,
+        number_in_part::<u32>(text, 6, 1) as usize,
+        number_in_part(text, 6, 2),
     );
 }
 
-// Writes the file of a text; returns the number of octets that are taken of it.
-pub fn put_sample(text: &[u8], out: &mut [u8]) -> usize {
-    let mut numbers = numbers_by(number_in_part(text, 2, 1), number_in_part(text, 2, 2));
-    let times = part_of(text, 3);
-    let mut times = times_by(number(times, 0), number(times, 1), number(times, 2));
-    let whole = write_sample(text, &mut numbers, &mut times, out);
-    change_number(text, out);
-    if part_of(text, 7).len() == 0 {
-        return whole;
+// Writes the file of a text into `room`; returns the octets that are taken of it, or all of `room` if it has fewer.
+pub fn sample_of<'a>(text: &[u8], room: &'a mut [u8]) -> &'a [u8] {
+    let mut numbers = numbers_by(Series {
+        next: number_in_part(text, 2, 1),
+        step: number_in_part(text, 2, 2),
+    });
+    let rising = Series {
+        next: number_in_part(text, 3, 0),
+        step: number_in_part(text, 3, 1),
+    };
+    let mut times = times_by(rising, number_in_part(text, 3, 2));
+    let whole = write_sample(text, &mut numbers, &mut times, room);
+    change_number(text, room);
+    if part_of(text, 7).is_empty() {
+        return first(room, whole);
     }
-    number_in_part(text, 7, 0) as usize
+    first(room, number_in_part::<u32>(text, 7, 0) as usize)
 }

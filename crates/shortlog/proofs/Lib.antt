@@ -1,5 +1,4 @@
 -- Laws of logs of short numbers.
 mod Turns
-mod Filling
 mod TrueNumbers
 mod Cases

@@ -64,12 +64,6 @@ step-found r s short time g n e f = go (ltb (sent_most + 1) s.stream.next) refl
     go false q =
         ap (λ (m : ℕ). step_of s m time) (f ∙ ap (λ (x : ℕ). number_found r x short) (e (ltb-false (sent_most + 1) s.stream.next q)))
 
--- an answer that is the step's is as the contract of a step in place says
-pub as-short-step : (r : ℕ) (s : Receiver) (short time : ℕ) (d : StepAnswer) → d ≡ short_step r s short time
-    → AsShortStep r s short time d.outcome d.state
-unfolding short_step
-as-short-step r s short time d e = as_step s (number_found r (greatest_by s) short) time d e
-
 -- ---- NextExp less 1 is the greatest number
 
 greatest-more : (l : List Arrival) (a : Arrival) → greatest_of (numbers_of (l ++ (a ∷ []))) ≡ max (greatest_of (numbers_of l)) a.number

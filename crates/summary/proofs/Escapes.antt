@@ -1,12 +1,10 @@
--- A label in a JSON string, octet by octet: the next octet is appended (`escaped-next`), and after the last the whole label is written
--- (`escaped-all`). The label of a file has at most 64 octets (`label-short`). l are the octets of a label, i is the number of octets
--- written. Assumes nothing.
+-- A label in a JSON string, octet by octet: the next octet is appended (`escaped-next`). The label of a file has at most 64 octets
+-- (`label-short`). l are the octets of a label, i is the number of octets written. Assumes nothing.
 use Prim.Native.Nat.{ℕ, ◌+◌, ◌<◌, ◌≤◌}
 use native.Mathlib.Omega.{arith}
-use mathlib.Core.Path.{◌≡◌, refl, ap}
+use mathlib.Core.Path.{◌≡◌, refl}
 use mathlib.Core.List.{List, [], ◌∷◌, ◌++◌, append_assoc, append-nil}
 use lib.ListN.{length, take, get_or}
-use lib.Seq.{take_all}
 use Rattle.octets.proofs.Memory.{take_snoc}
 use Rattle.octets.specs.Below.{Octets}
 use Rattle.sample.specs.Format.{item_octets}
@@ -31,9 +29,6 @@ escaped-next l i h = rw (take_snoc l i 0 h, escaped-append (take i l) (get_or l 
 pub escaped-none : (l : List ℕ) → escaped (take 0 l) ≡ []
 unfolding item_octets
 escaped-none l = refl
-
-pub escaped-all : (l : List ℕ) (i : ℕ) → length l ≤ i → escaped (take i l) ≡ escaped l
-escaped-all l i h = ap escaped (take_all i l h)
 
 -- ---- a file's label
 

@@ -2,6 +2,7 @@
 -- record is determined by its gap as a number (`gap-line`). After `metrics::record_gaps` a list of zeros holds the numbers of all gaps
 -- (`gap-list`): it is long enough for any sample, and the entries after the last record stay 0 (`over_zeros`). l are the answers, n is a
 -- record or the number of lines written, d the decoded file, y its layout. Assumes nothing.
+use Rattle.std.specs.Prelude.{None}
 use Prim.Native.Nat.{ℕ, zero, suc, ◌+◌, ◌-◌, ◌≤◌, ◌<◌}
 use native.Mathlib.Numerals.{add-one}
 use native.Mathlib.Omega.{arith}
@@ -15,9 +16,8 @@ use borrow.Author.Tests.{ne_eqb, le-ltb, leb-true, leb-false}
 use Rattle.octets.specs.Memory.{part, over}
 use Rattle.octets.proofs.Memory.{part_length}
 use Rattle.rfc4737.specs.declared.Answer.{Answer}
-use Rattle.rfc4737.specs.declared.Gap.{Gap}
 use Rattle.rfc4737.specs.Tally.{tally}
-use Rattle.rfc4737.specs.Gaps.{gaps}
+use Rattle.rfc4737.specs.Gaps.{Gap, gaps}
 use Rattle.rfc4737.proofs.Lists.{zeros}
 use Rattle.sample.specs.declared.Layout.{Layout}
 use Rattle.sample.specs.Decode.{Decoded, refused, accepted}
@@ -86,7 +86,7 @@ module _ (head : List ℕ) (l : List Answer) where
   unfolding figure_line section_line
   degree-section list long known = section-of Kind.Degree list l head 10 long (λ k h. ap (pair_line (suc k)) (known.at k h))
 
-  pub gap-section : (list : List ℕ) → ((k : ℕ) → k < length list → number_gap (get_or list k 0) ≡ at_record Gap.None (gaps l) (suc k))
+  pub gap-section : (list : List ℕ) → ((k : ℕ) → k < length list → number_gap (get_or list k 0) ≡ at_record None (gaps l) (suc k))
       → head ++ figure_lines Kind.Gap list (length list) ≡ section head Kind.Gap l (length list)
   unfolding figure_line section_line
   gap-section list known =
@@ -122,7 +122,7 @@ module _ (d : Decoded) (y : Layout) (h : FileLayout d y) where
   -- the numbers of all gaps stand in the list, and in a part of it for all records
   gap-list : (answer : Layout) (new : List ℕ) → GapsTo d (replicate 4096 0) answer new → GapsTell
       → (k : ℕ) → k < length (take y.arrivals new)
-      → number_gap (get_or (take y.arrivals new) k 0) ≡ at_record Gap.None (gaps (answers_of d)) (suc k)
+      → number_gap (get_or (take y.arrivals new) k 0) ≡ at_record None (gaps (answers_of d)) (suc k)
   unfolding record_gap at_record
   gap-list answer new t tell k inside =
       let filled : new ≡ over (gap_numbers (answers_of d)) (replicate 4096 0) =

@@ -1,13 +1,12 @@
 -- The figures of a whole sample that its summary leaves out, as ASCII octets: the tally of extents, the numbers of n-reordered packets for
 -- n = 1 to 10, the gaps and the runs. Assumes nothing.
-use Rattle.std.specs.Prelude.{ℕ, zero, suc, cond, List, [], ◌∷◌, ◌++◌, eqb, length, get_or}
+use Rattle.std.specs.Prelude.{ℕ, zero, suc, cond, List, [], ◌∷◌, ◌++◌, eqb, length, get_or, None, Some}
 use Rattle.octets.specs.Text.{ascii}
 use Rattle.decimal.specs.Decimal.{decimal_of}
 use Rattle.rfc4737.specs.declared.Answer.{Answer}
-use Rattle.rfc4737.specs.declared.Gap.{Gap}
 use Rattle.rfc4737.specs.Runs.{runs}
 use Rattle.rfc4737.specs.Tally.{tally}
-use Rattle.rfc4737.specs.Gaps.{gaps}
+use Rattle.rfc4737.specs.Gaps.{Gap, gaps}
 use Rattle.rfc4737.specs.Ratios.{n_reordered}
 use Rattle.sample.specs.declared.WriteAnswer.{WriteAnswer}
 use Rattle.sample.specs.Output.{Output}
@@ -31,14 +30,14 @@ extent_line extent packets = cond (eqb packets 0) [] (pair_line extent packets)
 
 -- a record and its gap; no line if it has none
 unfoldable pub gap_line : ℕ → Gap → List ℕ
-gap_line n Gap.None = []
-gap_line n (Gap.Positions gap) = pair_line n gap
+gap_line n None = []
+gap_line n (Some gap) = pair_line n gap
 
 -- the line for a number, which is an extent, an n or a record
 unfoldable pub section_line : Kind → List Answer → ℕ → List ℕ
 section_line Kind.Extent l e = extent_line e (get_or (tally l) e 0)
 section_line Kind.Degree l n = pair_line n (n_reordered n l)
-section_line Kind.Gap l n = gap_line n (at_record Gap.None (gaps l) n)
+section_line Kind.Gap l n = gap_line n (at_record None (gaps l) n)
 
 -- the lines for 1 to n
 unfoldable pub lines_to : Kind → List Answer → ℕ → List ℕ

@@ -13,14 +13,12 @@ pub(crate) fn steps_back(file: &[u8], layout: Layout) -> bool
     ensures { result ≡ steps_back 0 (sample_arrivals (decode file.now)) }
 {
     let mut last: u64 = 0;
-    let mut i: u32 = 0;
-    while i < layout.arrivals {
+    for i in 0..layout.arrivals {
         let time = sample::arrival(file, layout, i).time;
         if time < last {
             return true;
         }
         last = time;
-        i += 1;
     }
     false
 }

@@ -17,12 +17,14 @@ mod json;
 mod lines;
 mod parts;
 
-use all::{degrees_of, hand_over_all};
-use json::{write_object, write_start};
-use lines::write_text;
+use all::{Others, degrees_of};
+use json::object_of;
+pub use json::write_label_member;
+use lines::text_of;
 use rfc4737::judge::ARRIVALS_MOST;
-use rfc4737::refusal::{LONG_LABEL, NONE, OUTPUT_SHORT};
+use rfc4737::refusal::{NONE, Refusal};
 use sample::WriteAnswer;
+use writing::{Text, hand_over};
 
 // Room for any summary, as text or as JSON, in octets.
 pub const SUMMARY_OCTETS: usize = 2048;
@@ -39,27 +41,6 @@ const MAX_RECORDS: usize = ARRIVALS_MOST as usize;
 // The greatest length of a label.
 const LABEL_MOST: usize = 64;
 
-// Copies a text to the start of `out` if nothing was refused and `out` has room for it.
-fn hand_over(refusal: u32, text: &[u8], out: &mut [u8]) -> WriteAnswer
-    requires { length text.now ≤ all_octets }
-    ensures { Output refusal text.now out.old result out.new }
-{
-    if refusal != NONE {
-        return WriteAnswer { refusal, length: 0 };
-    }
-    if out.len() < text.len() {
-        return WriteAnswer {
-            refusal: OUTPUT_SHORT,
-            length: 0,
-        };
-    }
-    octets::put_octets(out, 0, text);
-    WriteAnswer {
-        refusal: NONE,
-        length: text.len() as u32,
-    }
-}
-
 // Writes the summary of a sample to the start of `out`; SUMMARY_OCTETS octets have room for any. Refusals: the file's; 8 if `out` is too
 // short. If the call is refused, `out` stays unchanged. Cost: fifteen searches by `buffering::least`, and seven passes over the file.
 pub fn write(file: &[u8], out: &mut [u8]) -> WriteAnswer
@@ -67,9 +48,7 @@ pub fn write(file: &[u8], out: &mut [u8]) -> WriteAnswer
     ensures room { length (summary_text (decode file.now)) ≤ summary_octets }
 {
     let layout = sample::check(file);
-    let mut text = [0u8; SUMMARY_OCTETS];
-    let n = write_text(file, layout, &mut text);
-    hand_over(layout.refusal, &text[..n], out)
+    hand_over(layout.refusal, text_of(file, layout).octets(), out)
 }
 
 // Writes the summary of a sample as one JSON object and a line feed. Room, refusals and cost are those of `write`.
@@ -78,9 +57,7 @@ pub fn write_json(file: &[u8], out: &mut [u8]) -> WriteAnswer
     ensures room { length (summary_json (decode file.now)) ≤ summary_octets }
 {
     let layout = sample::check(file);
-    let mut text = [0u8; SUMMARY_OCTETS];
-    let n = write_object(file, layout, &mut text);
-    hand_over(layout.refusal, &text[..n], out)
+    hand_over(layout.refusal, object_of(file, layout).octets(), out)
 }
 
 // Writes a label as the first member of a JSON object to the start of `out`; LABEL_OCTETS octets have room for any label of at most 64
@@ -90,14 +67,11 @@ pub fn write_json_label(label: &[u8], out: &mut [u8]) -> WriteAnswer
     ensures room { length label.now ≤ label_most → length (label_member label.now) ≤ label_octets }
 {
     if LABEL_MOST < label.len() {
-        return WriteAnswer {
-            refusal: LONG_LABEL,
-            length: 0,
-        };
+        return WriteAnswer::from(Err(Refusal::LongLabel));
     }
-    let mut text = [0u8; LABEL_OCTETS];
-    let n = write_start(&mut text, 0, label);
-    hand_over(NONE, &text[..n], out)
+    let mut text = Text::<LABEL_OCTETS>::new();
+    write_label_member(&mut text, label);
+    hand_over(NONE, text.octets(), out)
 }
 
 // Writes the summary of a sample and the other figures of the whole sample. Refusals are those of `write`; ALL_OCTETS octets have room
@@ -108,21 +82,16 @@ pub fn write_all(file: &[u8], out: &mut [u8]) -> WriteAnswer
     ensures room { length (all_text (decode file.now)) ≤ all_octets }
 {
     let layout = sample::check(file);
-    let mut text = [0u8; SUMMARY_OCTETS];
-    let n = write_text(file, layout, &mut text);
+    let text = text_of(file, layout);
     let tally = metrics::tally(file).tally;
     let degrees = degrees_of(file);
     let mut gaps = [0u32; MAX_RECORDS];
     metrics::record_gaps(file, &mut gaps);
-    let runs = metrics::counts(file).counts.runs;
-    let records = layout.arrivals as usize;
-    hand_over_all(
-        layout.refusal,
-        out,
-        &text[..n],
-        &tally,
-        &degrees,
-        &gaps[..records],
-        runs,
-    )
+    let others = Others {
+        tally: &tally,
+        degrees: &degrees,
+        gaps: &gaps[..layout.arrivals as usize],
+        runs: metrics::counts(file).counts.runs,
+    };
+    others.hand_over(layout.refusal, out, text.octets())
 }

@@ -1,170 +1,166 @@
-// Writes the lines of the summary. Each function writes at an offset of a buffer that has room, and returns the offset after what it wrote.
-ghost use Rattle.std.specs.Prelude.{◌+◌, ◌≤◌, length};
+// Writes the lines of the summary.
+ghost use Rattle.std.specs.Prelude.{◌≡◌, ◌+◌, ◌≤◌, ◌++◌, length};
 ghost use Rattle.sample.specs.Decode.{decode};
 ghost use Rattle.metrics.specs.Sample.{answers_of};
 ghost use Rattle.metrics.specs.Records.{FileLayout};
 ghost use Rattle.summary.specs.Figures.{sizes_for};
 ghost use Rattle.summary.specs.Text.{counts_line, share_line, sizes_line, row_lines, needs_lines, line_if, limit_lines, ratio_lines, disorder_line, summary_text};
-ghost use Rattle.writing.specs.Parts.{Written};
 
-use crate::figures::{Sizes, figures_of, sizes_for};
-use crate::parts::{write_between, write_column, write_milliseconds, write_ratio, write_word};
+use crate::figures::{Figures, Sizes, figures_of, sizes_for};
+use crate::parts::{Summary, write_column, write_milliseconds, write_ratio};
 use sample::Layout;
 
 // Writes the line with the counts.
-fn write_counts(out: &mut [u8], at: usize, sent: u32, arrived: u32, copies: u32) -> usize
-    requires { at + 120 ≤ length out.old }
-    ensures { Written at result (counts_line sent arrived copies) out.old out.new × (result ≤ at + 120) }
+#[tactic(auto, unfolding(crate::specs::Text::counts_line))]
+fn write_counts(out: &mut Summary, figures: Figures)
+    requires { length out.old + 120 ≤ 2048 }
+    ensures written { out.new ≡ out.old ++ counts_line figures.sent figures.arrived figures.copies }
+    ensures room { length out.new ≤ length out.old + 120 }
 {
-    let one = write_between(out, at, b"", sent as u64, b" packets sent, ");
-    let two = write_between(out, one, b"", arrived as u64, b" arrived, ");
-    write_between(out, two, b"", copies as u64, b" copies besides\n")
+    out.between(b"", figures.sent as u64, b" packets sent, ");
+    out.between(b"", figures.arrived as u64, b" arrived, ");
+    out.between(b"", figures.copies as u64, b" copies besides\n");
 }
 
 // Writes a line with the number and the share of the first arrivals of one kind: `part` of `whole`.
-fn write_share(out: &mut [u8], at: usize, name: &[u8], part: u32, whole: u32) -> usize
-    requires { at + (length name.now + 92) ≤ length out.old }
-    ensures { Written at result (share_line name.now part whole) out.old out.new
-        × (result ≤ at + (length name.now + 92)) }
+#[tactic(auto, unfolding(crate::specs::Text::share_line))]
+fn write_share(out: &mut Summary, name: &[u8], part: u32, whole: u32)
+    requires { length out.old + (length name.now + 92) ≤ 2048 }
+    ensures written { out.new ≡ out.old ++ share_line name.now part whole }
+    ensures room { length out.new ≤ length out.old + (length name.now + 92) }
 {
-    write_ratio(out, at, name, b" of ", b", ", b"-", b" %\n", part, whole)
+    write_ratio(out, name, b" of ", b", ", b"-", b" %\n", part, whole);
 }
 
 // Writes the line with the least sizes for a share.
-fn write_sizes(out: &mut [u8], at: usize, share: &[u8], sizes: Sizes) -> usize
-    requires { at + (length share.now + 174) ≤ length out.old }
-    ensures { Written at result (sizes_line share.now sizes) out.old out.new
-        × (result ≤ at + (length share.now + 174)) }
+#[tactic(auto, unfolding(crate::specs::Text::sizes_line))]
+fn write_sizes(out: &mut Summary, share: &[u8], sizes: Sizes)
+    requires { length out.old + (length share.now + 174) ≤ 2048 }
+    ensures written { out.new ≡ out.old ++ sizes_line share.now sizes }
+    ensures room { length out.new ≤ length out.old + (length share.now + 174) }
 {
-    let one = write_word(out, at, share);
-    let two = write_milliseconds(out, one, sizes.time);
-    let three = write_column(out, two, 16, sizes.packets);
-    let four = write_column(out, three, 15, sizes.octets);
-    write_word(out, four, b"\n")
+    out.word(share);
+    write_milliseconds(out, sizes.time);
+    write_column(out, 16, sizes.packets);
+    write_column(out, 15, sizes.octets);
+    out.word(b"\n");
 }
 
 // Finds the least sizes for `share` percent of the first arrivals, and writes their row of the table.
-fn write_row(out: &mut [u8], at: usize, file: &[u8], name: &[u8], share: u32) -> usize
-    requires { (at + (length name.now + 174) ≤ length out.old) × (1 ≤ share) × (share ≤ 100) }
-    ensures { Written at result (sizes_line name.now (sizes_for (answers_of (decode file.now)) share))
-        out.old out.new
-        × (result ≤ at + (length name.now + 174)) }
+fn write_row(out: &mut Summary, file: &[u8], name: &[u8], share: u32)
+    requires { (length out.old + (length name.now + 174) ≤ 2048) × (1 ≤ share) × (share ≤ 100) }
+    ensures written { out.new ≡ out.old ++ sizes_line name.now (sizes_for (answers_of (decode file.now)) share) }
+    ensures room { length out.new ≤ length out.old + (length name.now + 174) }
 {
     let sizes = sizes_for(file, share);
-    write_sizes(out, at, name, sizes)
+    write_sizes(out, name, sizes);
 }
 
 // Writes the rows of the table of the least sizes.
-fn write_rows(out: &mut [u8], at: usize, file: &[u8]) -> usize
-    requires { at + 915 ≤ length out.old }
-    ensures { Written at result (row_lines (answers_of (decode file.now))) out.old out.new
-        × (result ≤ at + 915) }
+#[tactic(auto, unfolding(crate::specs::Text::row_lines))]
+fn write_rows(out: &mut Summary, file: &[u8])
+    requires { length out.old + 915 ≤ 2048 }
+    ensures written { out.new ≡ out.old ++ row_lines (answers_of (decode file.now)) }
+    ensures room { length out.new ≤ length out.old + 915 }
 {
-    let one = write_row(out, at, file, b"     50 %", 50);
-    let two = write_row(out, one, file, b"     90 %", 90);
-    let three = write_row(out, two, file, b"     95 %", 95);
-    let four = write_row(out, three, file, b"     99 %", 99);
-    write_row(out, four, file, b"      all", 100)
+    write_row(out, file, b"     50 %", 50);
+    write_row(out, file, b"     90 %", 90);
+    write_row(out, file, b"     95 %", 95);
+    write_row(out, file, b"     99 %", 99);
+    write_row(out, file, b"      all", 100);
 }
 
 // Writes the table of the least sizes.
-fn write_needs(out: &mut [u8], at: usize, file: &[u8]) -> usize
-    requires { at + 1200 ≤ length out.old }
-    ensures { Written at result (needs_lines (answers_of (decode file.now))) out.old out.new
-        × (result ≤ at + 1200) }
+#[tactic(auto, unfolding(crate::specs::Text::needs_lines))]
+fn write_needs(out: &mut Summary, file: &[u8])
+    requires { length out.old + 1200 ≤ 2048 }
+    ensures written { out.new ≡ out.old ++ needs_lines (answers_of (decode file.now)) }
+    ensures room { length out.new ≤ length out.old + 1200 }
 {
-    let one = write_word(
-        out,
-        at,
+    out.word(
         b"\nA receiver that puts the packets back in order needs, for this share of those that arrived:\n\n    share    waiting time    packets held    octets held\n",
     );
-    let two = write_rows(out, one, file);
-    write_word(
-        out,
-        two,
+    write_rows(out, file);
+    out.word(
         b"\nPackets held is an extent, which can be more than a receiver has to hold. Packets that never arrived are not counted.\n",
-    )
+    );
 }
 
 // Writes a line if `due`, else nothing.
-fn write_if(out: &mut [u8], at: usize, due: bool, line: &[u8]) -> usize
-    requires { at + length line.now ≤ length out.old }
-    ensures { Written at result (line_if due line.now) out.old out.new
-        × (result ≤ at + length line.now) }
+#[tactic(auto, unfolding(crate::specs::Text::line_if))]
+fn write_if(out: &mut Summary, due: bool, line: &[u8])
+    requires { length out.old + length line.now ≤ 2048 }
+    ensures written { out.new ≡ out.old ++ line_if due line.now }
+    ensures room { length out.new ≤ length out.old + length line.now }
 {
     if due {
-        return write_word(out, at, line);
+        out.word(line);
     }
-    at
 }
 
 // Writes the lines that limit what the sizes mean: one if packets were lost, one if the clock steps back.
-fn write_limits(out: &mut [u8], at: usize, lost: bool, back: bool) -> usize
-    requires { at + 220 ≤ length out.old }
-    ensures { Written at result (limit_lines lost back) out.old out.new × (result ≤ at + 220) }
+#[tactic(auto, unfolding(crate::specs::Text::limit_lines))]
+fn write_limits(out: &mut Summary, figures: Figures)
+    requires { length out.old + 220 ≤ 2048 }
+    ensures written { out.new ≡ out.old ++ limit_lines figures.lost figures.back }
+    ensures room { length out.new ≤ length out.old + 220 }
 {
-    let one = write_if(
+    write_if(
         out,
-        at,
-        lost,
+        figures.lost,
         b"Packets were lost in this sample; packets and octets held are told for samples without loss, and a receiver can hold more.\n",
     );
     write_if(
         out,
-        one,
-        back,
+        figures.back,
         b"The clock steps back in this sample; the waiting times hold only for clocks that do not.\n",
-    )
+    );
 }
 
 // Writes the lines with the ratios.
-fn write_ratios(
-    out: &mut [u8],
-    at: usize,
-    reordered: u32,
-    reordered1: u32,
-    reordered3: u32,
-    arrived: u32,
-) -> usize
-    requires { at + 330 ≤ length out.old }
-    ensures { Written at result (ratio_lines reordered reordered1 reordered3 arrived) out.old out.new
-        × (result ≤ at + 330) }
+#[tactic(auto, unfolding(crate::specs::Text::ratio_lines))]
+fn write_ratios(out: &mut Summary, figures: Figures)
+    requires { length out.old + 330 ≤ 2048 }
+    ensures written { out.new ≡ out.old ++ ratio_lines figures.reordered figures.reordered1 figures.reordered3 figures.arrived }
+    ensures room { length out.new ≤ length out.old + 330 }
 {
-    let one = write_share(out, at, b"\nReordered (late): ", reordered, arrived);
-    let two = write_share(out, one, b"1-reordered: ", reordered1, arrived);
-    write_share(out, two, b"3-reordered: ", reordered3, arrived)
+    write_share(
+        out,
+        b"\nReordered (late): ",
+        figures.reordered,
+        figures.arrived,
+    );
+    write_share(out, b"1-reordered: ", figures.reordered1, figures.arrived);
+    write_share(out, b"3-reordered: ", figures.reordered3, figures.arrived);
 }
 
 // Writes the line with the total of disorder.
-fn write_disorder(out: &mut [u8], at: usize, total: u32) -> usize
-    requires { at + 70 ≤ length out.old }
-    ensures { Written at result (disorder_line total) out.old out.new × (result ≤ at + 70) }
+#[tactic(auto, unfolding(crate::specs::Text::disorder_line))]
+fn write_disorder(out: &mut Summary, total: u32)
+    requires { length out.old + 70 ≤ 2048 }
+    ensures written { out.new ≡ out.old ++ disorder_line total }
+    ensures room { length out.new ≤ length out.old + 70 }
 {
-    write_between(
-        out,
-        at,
+    out.between(
         b"Total of disorder: ",
         total as u64,
         b" pairs in the wrong order\n",
-    )
+    );
 }
 
-// Writes the summary of a sample.
-pub(crate) fn write_text(file: &[u8], layout: Layout, out: &mut [u8]) -> usize
-    requires { FileLayout (decode file.now) layout × (2048 ≤ length out.old) }
-    ensures { Written 0 result (summary_text (decode file.now)) out.old out.new × (result ≤ 2048) }
+// Returns the summary of a sample.
+#[tactic(auto, unfolding(crate::specs::Text::summary_text, crate::specs::Text::text_of))]
+pub(crate) fn text_of(file: &[u8], layout: Layout) -> Summary
+    requires { FileLayout (decode file.now) layout }
+    ensures written { result ≡ summary_text (decode file.now) }
+    ensures room { length result ≤ 2048 }
 {
     let figures = figures_of(file, layout);
-    let one = write_counts(out, 0, figures.sent, figures.arrived, figures.copies);
-    let two = write_needs(out, one, file);
-    let three = write_limits(out, two, figures.lost, figures.back);
-    let four = write_ratios(
-        out,
-        three,
-        figures.reordered,
-        figures.reordered1,
-        figures.reordered3,
-        figures.arrived,
-    );
-    write_disorder(out, four, figures.disorder)
+    let mut out = Summary::new();
+    write_counts(&mut out, figures);
+    write_needs(&mut out, file);
+    write_limits(&mut out, figures);
+    write_ratios(&mut out, figures);
+    write_disorder(&mut out, figures.disorder);
+    out
 }

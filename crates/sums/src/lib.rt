@@ -6,9 +6,8 @@
 ghost use Rattle.std.specs.Prelude.{◌≡◌, ◌≤◌};
 ghost use Rattle.sums.specs.Tree.{rest, Added, sum_to, ExactSum};
 
-use std::num::wrapping_add_u32;
-
 // i with its lowest set bit cleared.
+#[tactic(auto, unfolding(crate::specs::Tree::rest))]
 fn rest(i: usize) -> usize
     requires { 1 ≤ i }
     ensures { result ≡ rest i }
@@ -25,8 +24,8 @@ pub fn add(tree: &mut [u32], number: u32, value: u32)
     }
     let mut i = number as usize;
     while i < tree.len() {
-        tree[i] = wrapping_add_u32(tree[i], value);
-        i = i + (i - rest(i));
+        tree[i] = tree[i].wrapping_add(value);
+        i += i - rest(i);
     }
 }
 
@@ -39,9 +38,9 @@ pub fn sum_to(tree: &[u32], number: u32) -> u32
     if tree.len() <= i {
         return 0;
     }
-    let mut sum: u32 = 0;
+    let mut sum = 0u32;
     while i != 0 {
-        sum = wrapping_add_u32(sum, tree[i]);
+        sum = sum.wrapping_add(tree[i]);
         i = rest(i);
     }
     sum

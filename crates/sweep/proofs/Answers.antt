@@ -201,6 +201,11 @@ module _ (d : Decoded) (y : Layout) (e : y ≡ layout_of d) (own : d ≡ accepte
                 let g = at-list (λ (a : Answer). (figures_of a).late) refl old.lates new.lates f.lates i h in
                 rw (a, b, c, g)
 
+-- what holds of what is lent holds of the same lists by other names
+pub lent-left : (P : Lent → Type 0) → {t f p e l f' p' e' l' : List ℕ} → f' ≡ f → p' ≡ p → e' ≡ e → l' ≡ l
+    → P (lent t f p e l) → P (lent t f' p' e' l')
+lent-left P f p e l holds = rw (f, p, e, l) holds
+
 -- ---- the rows of records
 
 row-figures : (a : Answer)

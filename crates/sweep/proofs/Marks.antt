@@ -3,8 +3,8 @@
 -- changes no mark (`mark-copy`). A first arrival marks its own packet as arrived and is the discontinuity of the packets that it skips;
 -- all other marks stay (`mark-more`, by cases: packet s is its own, has arrived, is below NextExp, or is skipped). The position of a
 -- first arrival is its index among the first arrivals plus 1, and the list of positions has it at its record (`position_at`, by
--- `listed_at` of metrics). Last, one value stored at consecutive indices is a splice (`skip-next`), with the values of `skipped_at`. l
--- are the arrivals, a is the next one, s a packet, fs first arrivals, p an index among them or the arrival there, k what is known of a
+-- `listed_at` of metrics). Last, `skipped_at` gives the values where one value was stored at consecutive indices. l are the
+-- arrivals, a is the next one, s a packet, fs first arrivals, p an index among them or the arrival there, k what is known of a
 -- discontinuity. Assumes nothing.
 use mathlib.Core.Path.{◌≡◌, refl, sym, ap, ◌∙◌}
 use mathlib.Core.Bool.{Bool, true, false, cond, ◌&&◌, true≢false, or-true}
@@ -13,11 +13,11 @@ use mathlib.Core.Option.{Option, none, some}
 use Prim.Native.Nat.{ℕ, ◌+◌, ◌-◌, ◌≤◌, ◌<◌}
 use native.Mathlib.Omega.{arith}
 use lib.Dec.{eqb, leb, ltb}
-use lib.ListN.{length, get_or, set, take, drop, replicate, length-replicate, get_or-replicate, length-append, length-map, get_or-append}
+use lib.ListN.{length, get_or, drop, replicate, length-replicate, get_or-replicate, length-append, length-map, get_or-append}
 use lib.Seq.{get_or-append_seam, get_or-take, get_or-drop}
 use borrow.Author.Tests.{eqb-false, eq-eqb, ne_eqb, leb-true, leb-false, lt-leb, ltb-true, ltb-false}
 use Rattle.octets.specs.Memory.{splice}
-use Rattle.octets.proofs.Memory.{splice-length, splice-take, splice-tail, splice-drop, copy_start, copy-length, copy-next, copy_done}
+use Rattle.octets.proofs.Memory.{splice-length, splice-take, splice-tail, splice-drop}
 use Rattle.rfc4737.specs.declared.Arrival.{Arrival}
 use Rattle.rfc4737.specs.Arrivals.{has, firsts, first_record}
 use Rattle.rfc4737.specs.Order.{FirstArrival, next_exp, is_in_order}
@@ -196,28 +196,7 @@ module _ (from to value : ℕ) (old : List ℕ) (up : from ≤ to) (room : to �
   run_length : length run ≡ to - from
   run_length = length-replicate {A = ℕ} (to - from) value
 
-  -- before the first place
-  pub skip-start : old ≡ splice from (take (from - from) run) old
-  skip-start = let e : from - from ≡ 0 = omega arith in rw e (copy_start from run old)
-
-  module _ (k : ℕ) (table : List ℕ) (low : from ≤ k) (high : k ≤ to) (e : table ≡ splice from (take (k - from) run) old) where
-    -- the length stays
-    pub skip-length : length table ≡ length old
-    skip-length = ap length e ∙ copy-length from run old (k - from) (omega (arith, run_length)) (omega arith)
-
-    -- one place more
-    pub skip-next : k < to → set table k value ≡ splice from (take (k + 1 - from) run) old
-    skip-next h =
-        let m : from + (k - from) ≡ k = omega arith in
-        let n : k - from + 1 ≡ k + 1 - from = omega arith in
-        rw (m, n) at (copy-next from run old (k - from) 0 (omega (arith, run_length)) (omega arith) e
-        (sym (get_or-replicate (to - from) (k - from) value 0 (omega arith))))
-
-    -- after the last place
-    pub skip-done : to ≤ k → table ≡ splice from run old
-    skip-done h = copy_done from run old (k - from) (omega (arith, run_length)) e
-
-  -- then the length is as it was
+  -- the length is as it was
   pub skipped-length : length (splice from run old) ≡ length old
   skipped-length = splice-length from run old (omega (arith, run_length))
 

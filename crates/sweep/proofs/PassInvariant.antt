@@ -25,8 +25,19 @@ use Rattle.metrics.proofs.TablesFollow.{arrivals-laid, before-count, inside-laid
 use Rattle.sweep.specs.declared.table.State.{State}
 use Rattle.sweep.specs.Figures.{figures_of, positions_of}
 use Rattle.sweep.specs.Calls.{table_places, Lent}
-use Rattle.sweep.specs.Private.{TableAfter, Room, SweepReady, Put, FilledWith}
+use Rattle.sweep.specs.declared.lists.Lists.{Lists}
+use Rattle.sweep.specs.Private.{TableAfter, Room, SweepReady, Put, FilledWith, SameLists}
 use Rattle.sweep.proofs.Marks.{mark-ahead}
+
+-- the references stay over two steps
+pub same-again : {a b c : Lists} → SameLists a b → SameLists b c → SameLists a c
+same-again h g =
+    record {
+      flags = g.flags ∙ h.flags;
+      positions = g.positions ∙ h.positions;
+      extents = g.extents ∙ h.extents;
+      lates = g.lates ∙ h.lates;
+    }
 
 -- what is lent after the first i records
 pub record LentAfter (d : Decoded) (y : Layout) (i : ℕ) (old new : Lent) (state : State) : Type 0 where

@@ -50,6 +50,21 @@ pub record KnownRecord (d : Decoded) (y : Layout) (i number mark : ℕ) (state :
   pub count : state.count ≡ length (firsts (before d i))
   pub next : state.next ≡ next_exp (firsts (before d i))
 
+-- from the arrival that is read and the table
+pub known-record : (d : Decoded) (y : Layout) (i : ℕ) (state : State) → HasRecord d y i → {table : List ℕ}
+    → TableAfter (before d i) table state → (a : Arrival) → (a ≡ arrival_at d i) × (1 ≤ a.number) × (a.number ≤ table_places)
+    → KnownRecord d y i a.number (get_or table (a.number - 1) 0) state
+known-record d y i state has t a read =
+    record {
+      has = has;
+      is = ap (λ (b : Arrival). b.number) read.0;
+      low = read.1;
+      high = read.2;
+      stands = t.at a.number read.1 read.2;
+      count = t.count;
+      next = t.next;
+    }
+
 -- a test of two places is that of their packets
 leb-pred : (a b : ℕ) → 1 ≤ a → 1 ≤ b → leb (a - 1) (b - 1) ≡ leb a b
 leb-pred a b h g = go (leb a b) refl

@@ -13,9 +13,10 @@ use Rattle.sample.specs.declared.Layout.{Layout}
 use Rattle.sample.specs.Decode.{Decoded}
 use Rattle.metrics.specs.Records.{FileLayout}
 use Rattle.sweep.specs.declared.Figures.{Figures}
+use Rattle.sweep.specs.declared.lists.Lists.{Lists}
 use Rattle.sweep.specs.declared.table.State.{State}
 use Rattle.sweep.specs.Figures.{flags_of, positions_of, extents_of, lates_of}
-use Rattle.sweep.specs.Calls.{table_places, Lent}
+use Rattle.sweep.specs.Calls.{table_places, Lent, lent}
 
 -- the mark of a packet that has arrived; it is greater than any record
 abbrev pub arrived_mark : ℕ
@@ -68,3 +69,26 @@ pub record FilledWith (m : List Answer) (old new : Lent) : Type 0 where
   pub positions : new.positions ≡ over (positions_of m) old.positions
   pub extents : new.extents ≡ over (extents_of m) old.extents
   pub lates : new.lates ≡ over (lates_of m) old.lates
+
+-- ---- the lists as a struct
+
+-- what is lent: a table, and what stands in the lists
+abbrev pub lent_in : List ℕ → Lists → Lent
+lent_in table l = lent table l.flags.now l.positions.now l.extents.now l.lates.now
+
+-- there is room for n records
+abbrev pub RoomIn : ℕ → Lists → Type 0
+RoomIn n l = Room n l.flags.now l.positions.now l.extents.now l.lates.now
+
+-- the references are the caller's, as before
+pub record SameLists (old new : Lists) : Type 0 where
+  pub flags : new.flags.ghost_name ≡ old.flags.ghost_name
+  pub positions : new.positions.ghost_name ≡ old.positions.ghost_name
+  pub extents : new.extents.ghost_name ≡ old.extents.ghost_name
+  pub lates : new.lates.ghost_name ≡ old.lates.ghost_name
+
+-- the lists after the figures of record i + 1 were stored
+abbrev pub PutIn : ℕ → Figures → Lists → Lists → Type 0
+PutIn i x old new =
+    Put i x old.flags.now old.positions.now old.extents.now old.lates.now new.flags.now new.positions.now new.extents.now new.lates.now
+    × SameLists old new

@@ -4,15 +4,17 @@
 
 ghost use Rattle.std.specs.Prelude.{◌≡◌};
 ghost use Rattle.sample.specs.Decode.{decode};
-ghost use Rattle.sweep.specs.Calls.{lent_short, lent, SweptTo, EnginesAgree, ReportAgrees, SweepMoved, RowsAgree};
+ghost use Rattle.sweep.specs.Calls.{lent, SweptTo, EnginesAgree, ReportAgrees, SweepMoved, RowsAgree};
 
+mod lists;
 mod pass;
 mod table;
 
-use pass::pass;
-use rfc4737::refusal::{NONE, OUTPUT_SHORT};
+use lists::Lists;
+use pass::{CheckedFile, pass};
+use rfc4737::refusal::{NONE, Refusal};
 use sample::{Layout, refused_layout};
-use table::{PACKET_TABLE_LEN, clear};
+use table::clear;
 
 // The figures of a record: the number of its answer's case, its position, its extent, and the amount of its late time. Figures that it
 // lacks are 0.
@@ -24,33 +26,9 @@ pub struct Figures {
     pub late: u64,
 }
 
-// Returns whether the table or one of the four lists, of these lengths, is too short for `arrivals` arrivals.
-fn too_short(
-    arrivals: u32,
-    table: usize,
-    flags: usize,
-    positions: usize,
-    extents: usize,
-    lates: usize,
-) -> bool
-    ensures { result ≡ lent_short arrivals table flags positions extents lates }
-{
-    let count = arrivals as usize;
-    if table < PACKET_TABLE_LEN {
-        return true;
-    }
-    if flags < count {
-        return true;
-    }
-    if positions < count {
-        return true;
-    }
-    if extents < count {
-        return true;
-    }
-    lates < count
-}
-
+// The lists are parallel, and the refusal is a number in the layout, since C lends and receives them so, and `SweptTo` of specs/Calls.antt
+// says so of them.
+//
 // Fills the lists with the figures of every record of a file, and sets the first 4,096 numbers of the table to 0. Returns the layout of
 // `sample::check`, or refusal 8 if the table or a list is too short. If the call is refused, table and lists stay unchanged.
 pub fn sweep(
@@ -75,18 +53,18 @@ pub fn sweep(
     if layout.refusal != NONE {
         return layout;
     }
-    if too_short(
-        layout.arrivals,
-        table.len(),
-        flags.len(),
-        positions.len(),
-        extents.len(),
-        lates.len(),
-    ) {
-        return refused_layout(OUTPUT_SHORT);
+    let mut lists = Lists {
+        flags,
+        positions,
+        extents,
+        lates,
+    };
+    if lists.too_short(layout.arrivals, table.len()) {
+        return refused_layout(Refusal::OutputShort.number());
     }
+    let checked = CheckedFile { file, layout };
     clear(table);
-    pass(file, layout, table, flags, positions, extents, lates);
+    pass(&checked, table, &mut lists);
     clear(table);
     layout
 }

@@ -24,11 +24,7 @@ pub(crate) fn clear(table: &mut [u16])
     requires { table_places ≤ length table.old }
     ensures { table.new ≡ over (replicate table_places 0) table.old }
 {
-    let mut k: usize = 0;
-    while k < PACKET_TABLE_LEN {
-        table[k] = 0;
-        k += 1;
-    }
+    table[..PACKET_TABLE_LEN].fill(0);
 }
 
 // Stores the record of a jump at the indices from `from` to `to` - 1.
@@ -36,9 +32,5 @@ pub(crate) fn note_skipped(table: &mut [u16], from: usize, to: usize, jump: u16)
     requires { (from ≤ to) × (to ≤ length table.old) }
     ensures { table.new ≡ splice from (replicate (to - from) jump) table.old }
 {
-    let mut k = from;
-    while k < to {
-        table[k] = jump;
-        k += 1;
-    }
+    table[from..to].fill(jump);
 }

@@ -18,8 +18,6 @@ use Rattle.rfc4737.proofs.Due.{not-outside}
 use Rattle.rfc4737.proofs.Folds.{length-answers}
 use Rattle.sample.specs.declared.Layout.{Layout}
 use Rattle.sample.specs.Decode.{Decoded, refused, accepted, decode, layout_of}
-use Rattle.sample.specs.declared.WriteAnswer.{WriteAnswer}
-use Rattle.sample.specs.Output.{Output}
 use Rattle.metrics.specs.Sample.{size_of, sample_arrivals, answers_of}
 use Rattle.metrics.specs.declared.SampleCounts.{SampleCounts}
 use Rattle.metrics.specs.Figures.{record_answer, record_refusal, sample_counts}
@@ -79,13 +77,12 @@ module _ (d : Decoded) where
 
   -- parts without records
   pub none-known : (number : ℕ) → block_start d number ≤ block_start d (number - 1) → (rows : List ℕ) → PartRows d number rows
-  unfolding PartRows
   none-known number none rows = record { room = omega (arith, none); row = λ i low high. absurd (omega (arith, none, low, high)) }
 
   -- parts of records, after `rows_from`
   pub block-known : (number : ℕ) → (number ≡ 0 → ⊥) → (old : List ℕ) {rows : List ℕ} → length old ≡ 2048
       → rows ≡ over (rows_from d (256 * (number - 1)) (length old)) old → PartRows d number rows
-  unfolding PartRows rows_from
+  unfolding rows_from
   block-known number some old {rows} long f =
       let from = 256 * (number - 1) in
       let l = part from 256 (answers_of d) in
@@ -113,7 +110,3 @@ module _ (d : Decoded) where
 pub counts-known : (d : Decoded) {r : SampleCounts} → r ≡ sample_counts d → r.counts ≡ counts (answers_of d)
 unfolding sample_counts
 counts-known d e = ap (λ (r : SampleCounts). r.counts) e
-
--- an answer may be replaced by an equal one
-pub answer-is : {own : ℕ} {os old new : List ℕ} {a b : WriteAnswer} → a ≡ b → Output own os old b new → Output own os old a new
-answer-is {own} {os} {old} {new} e o = subst (λ (a : WriteAnswer). Output own os old a new) (sym e) o

@@ -13,8 +13,6 @@ use Rattle.rfc4737.specs.declared.Answer.{Answer}
 use Rattle.sample.specs.Decode.{Decoded}
 use Rattle.metrics.specs.Rows.{row_of, row_at}
 use Rattle.metrics.specs.Records.{arrival_at}
-use Rattle.writing.specs.Parts.{Written}
-use Rattle.writing.proofs.Parts.{named}
 use Rattle.table.specs.Text.{row_text, answer_at, record_text, records_from}
 use Rattle.table.specs.Private.Rows.{RowsKnown}
 
@@ -40,9 +38,9 @@ row-length rows i h =
     ap (λ (n : ℕ). length (part (8 * i) n rows)) e ∙ part_length (8 * i) 8 rows h
 
 -- record i + 1, written from its row
-pub record-written : (json : Bool) (d : Decoded) (from to : ℕ) (rows : List ℕ) (i : ℕ) {a : Arrival} {next : ℕ} {old new : List ℕ}
+pub record-written : (json : Bool) (d : Decoded) (from to : ℕ) (rows : List ℕ) (i : ℕ) {a : Arrival} {line : List ℕ}
     → RowsKnown d from to rows → from ≤ i → i < to → a ≡ arrival_at d i
-    → ((x : Answer) → taken (8 * (i - from)) 8 rows ≡ row_of x → Written 0 next (row_text json i a x) old new)
-    → Written 0 next (record_text json d i) old new
+    → ((x : Answer) → taken (8 * (i - from)) 8 rows ≡ row_of x → line ≡ row_text json i a x)
+    → line ≡ record_text json d i
 record-written json d from to rows i k low high e w =
-    named (ap (λ (a : Arrival). row_text json i a (answer_at d i)) e) (w (answer_at d i) (row-taken rows (i - from) ∙ k.row i low high))
+    w (answer_at d i) (row-taken rows (i - from) ∙ k.row i low high) ∙ ap (λ (a : Arrival). row_text json i a (answer_at d i)) e

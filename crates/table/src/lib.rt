@@ -1,7 +1,7 @@
 // Every record of a sample with named fields, as CSV or as JSON.
 #![tactic(auto)]
 
-ghost use Rattle.std.specs.Prelude.{◌≡◌, true, false, ◌≤◌, length};
+ghost use Rattle.std.specs.Prelude.{true, false, ◌≤◌, length};
 ghost use Rattle.sample.specs.Decode.{decode};
 ghost use Rattle.table.specs.Text.{part_text, part_octets, PartTo, PartsJoin};
 
@@ -9,9 +9,9 @@ mod parts;
 mod records;
 mod whole;
 
-use rfc4737::refusal::{NONE, OUTPUT_SHORT};
+use rfc4737::refusal::{NONE, Refusal};
 use sample::WriteAnswer;
-use whole::{part_rows, put_part};
+use whole::{Part, part_rows};
 
 // The number of parts of a table.
 pub const PARTS: u32 = 18;
@@ -22,35 +22,35 @@ pub const PART_OCTETS: usize = 131072;
 // The length of the rows of a block of 256 records: 8 numbers for each.
 const ROWS_LEN: usize = 2048;
 
-// Returns the answer of a refused call.
-fn refused(refusal: u32) -> WriteAnswer
-    ensures { result ≡ record { refusal = refusal; length = 0 } }
-{
-    WriteAnswer { refusal, length: 0 }
-}
-
-// Writes a part of a sample's table to the start of `out` if it has room for it. The first `put_part` only finds the length of the part,
-// since a refused call must leave `out` unchanged.
+// Writes a part of a sample's table to the start of `out` if it has room for it. The first `put` only finds the length of the part,
+// since a refused call must leave `out` unchanged. `summary` does the same with all figures; one function for both would have a closure
+// whose contract is longer than these lines.
 fn write_part(file: &[u8], json: bool, part: u32, out: &mut [u8]) -> WriteAnswer
     ensures { PartTo json (decode file.now) part out.old result out.new
         × (length (part_text json (decode file.now) part) ≤ part_octets) × PartsJoin json (decode file.now) }
 {
     let mut rows = [0u64; ROWS_LEN];
     let layout = part_rows(file, part, &mut rows);
-    let counts = metrics::counts(file).counts;
-    let mut none = [0u8; 1];
-    let n = put_part(file, layout, &rows, counts, json, part, &mut none);
+    let whole = Part {
+        file,
+        layout,
+        rows: &rows,
+        counted: metrics::counts(file).counts,
+        json,
+        number: part,
+    };
+    let n = whole.put(&mut []);
     if layout.refusal != NONE {
-        return refused(layout.refusal);
+        return WriteAnswer {
+            refusal: layout.refusal,
+            length: 0,
+        };
     }
     if out.len() < n {
-        return refused(OUTPUT_SHORT);
+        return WriteAnswer::from(Err(Refusal::OutputShort));
     }
-    put_part(file, layout, &rows, counts, json, part, out);
-    WriteAnswer {
-        refusal: NONE,
-        length: n as u32,
-    }
+    whole.put(out);
+    WriteAnswer::from(Ok(n as u32))
 }
 
 // Writes a part of a sample's table as comma-separated values: a line with the names of the fields, a line for each record, and a line with

@@ -4,12 +4,12 @@
 // the call.
 #![tactic(auto)]
 
-use cases::fields::{field, number_in, number_in_32};
-use cases::lists::first_8;
-use cases::print::{write_64, write_number, write_word};
-use cases::text::{count, input, part};
+use cases::fields::{field, number_in};
+use cases::print::{write_list, write_number, write_word};
+use cases::text::lines;
+use program::read_input;
 use rfc4737::Measure;
-use sample_text::{ROOM, put_sample};
+use sample_text::{ROOM, sample_of};
 use std::io;
 
 // How many octets of cases are read at most.
@@ -20,19 +20,17 @@ const ROW_PLACES: usize = 64;
 
 // The measure of a number.
 fn measure_of(number: u32) -> Measure {
-    if number == 1 {
-        return Measure::Packets;
+    match number {
+        1 => Measure::Packets,
+        2 => Measure::Octets,
+        _ => Measure::Time,
     }
-    if number == 2 {
-        return Measure::Octets;
-    }
-    Measure::Time
 }
 
 // Writes the greatest needs of a sample.
 fn write_needs(rt: &impl Print, file: &[u8]) -> io::Result<()> {
     let needs = metrics::greatest_needs(file);
-    write_number(rt, b": needs ", needs.refusal as u64)?;
+    write_number(rt, b": needs ", needs.refusal)?;
     write_number(rt, b", packets ", needs.packets)?;
     write_number(rt, b", octets ", needs.octets)?;
     write_number(rt, b", time ", needs.time)
@@ -41,9 +39,9 @@ fn write_needs(rt: &impl Print, file: &[u8]) -> io::Result<()> {
 // Writes how many first arrivals a buffer accommodates.
 fn write_accommodated(rt: &impl Print, file: &[u8], measure: Measure, size: u64) -> io::Result<()> {
     let found = metrics::accommodated(file, measure, size);
-    write_number(rt, b"; accommodated ", found.refusal as u64)?;
-    write_number(rt, b", ", found.accommodated as u64)?;
-    write_number(rt, b" of ", found.arrived as u64)
+    write_number(rt, b"; accommodated ", found.refusal)?;
+    write_number(rt, b", ", found.accommodated)?;
+    write_number(rt, b" of ", found.arrived)
 }
 
 // Writes the least size for a share.
@@ -55,22 +53,22 @@ fn write_least(
     whole: u32,
 ) -> io::Result<()> {
     let found = buffering::least(file, measure, share, whole);
-    write_number(rt, b"; least ", found.refusal as u64)?;
+    write_number(rt, b"; least ", found.refusal)?;
     write_number(rt, b", ", found.size)
 }
 
 // Fills a list with the rows of a sample, and writes it.
-fn write_list(rt: &impl Print, file: &[u8], rows: &mut [u64]) -> io::Result<()> {
+fn fill_rows(rt: &impl Print, file: &[u8], rows: &mut [u64]) -> io::Result<()> {
     let layout = metrics::record_rows(file, rows);
-    write_number(rt, b"; rows ", layout.refusal as u64)?;
-    write_64(rt, b",", rows)
+    write_number(rt, b"; rows ", layout.refusal)?;
+    write_list(rt, b",", rows)
 }
 
 // Writes the rows in a list of `places` places, if it has no more than 64.
 fn write_rows(rt: &impl Print, file: &[u8], places: usize) -> io::Result<()> {
     let mut rows = [7u64; ROW_PLACES];
     if places <= ROW_PLACES {
-        write_list(rt, file, &mut rows[0..places])?;
+        fill_rows(rt, file, &mut rows[..places])?;
     }
     Ok(())
 }
@@ -78,29 +76,21 @@ fn write_rows(rt: &impl Print, file: &[u8], places: usize) -> io::Result<()> {
 // Runs the case of a line.
 fn run(rt: &impl Print, line: &[u8]) -> io::Result<()> {
     let mut file = [0u8; ROOM];
-    let n = put_sample(field(line, 1), &mut file);
-    let octets = first_8(&file, n);
-    let measure = measure_of(number_in_32(line, 2));
+    let octets = sample_of(field(line, 1), &mut file);
+    let measure = measure_of(number_in(line, 2));
     write_word(rt, field(line, 0))?;
     write_needs(rt, octets)?;
     write_accommodated(rt, octets, measure, number_in(line, 3))?;
-    write_least(
-        rt,
-        octets,
-        measure,
-        number_in_32(line, 4),
-        number_in_32(line, 5),
-    )?;
-    write_rows(rt, octets, number_in(line, 6) as usize)?;
+    write_least(rt, octets, measure, number_in(line, 4), number_in(line, 5))?;
+    write_rows(rt, octets, number_in::<u64>(line, 6) as usize)?;
     write_word(rt, b"\n")
 }
 
 // Runs the cases of all lines.
 fn main(rt: HostRuntime) -> io::Result<()> {
     let mut room = [0u8; INPUT_OCTETS];
-    let text = input(&rt, &mut room)?;
-    for i in 0..count(text, b'\n') {
-        run(&rt, part(text, b'\n', i))?;
+    for line in lines(read_input(&rt, &mut room)?) {
+        run(&rt, line)?;
     }
     Ok(())
 }

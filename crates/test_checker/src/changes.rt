@@ -1,61 +1,52 @@
 // Changes each octet of the example's listing to each of the 255 others. The checker must report each change at the line where it stands.
-use cases::lists::first_8;
 use cases::print::{write_number, write_word};
 use checker::{Verdict, check};
-use sample_text::{ROOM, put_sample};
+use sample_text::{ROOM, sample_of};
 use std::io;
-use std::num::wrapping_add_u32;
 
 // The length of the listing.
 pub(crate) const OCTETS: usize = 101;
 
-// 1 if `test` holds, else 0.
-fn one_if(test: bool) -> u32 {
-    if test { 1 } else { 0 }
-}
-
-// 1 if the checker says that the listing is wrong at `line`, else 0.
-fn one_if_wrong_at(sample: &[u8], listing: &[u8], line: u32) -> u32 {
-    let verdict = check(sample, listing).verdict;
-    match verdict {
-        Verdict::Agrees => 0,
-        Verdict::WrongLine(n) => one_if(n == line),
+// Whether the checker says that the listing is wrong at `line`.
+fn wrong_at(sample: &[u8], listing: &[u8], line: u32) -> bool {
+    match check(sample, listing).verdict {
+        Verdict::Agrees => false,
+        Verdict::WrongLine(n) => n == line,
     }
 }
 
-// Changes the octet at `at`, which is on line `line`, to `octet`, checks the listing, and changes it back. Returns 1 if the change is
-// reported, else 0.
-fn change_octet(sample: &[u8], listing: &mut [u8], at: usize, octet: u8, line: u32) -> u32 {
-    if listing.len() <= at {
-        return 0;
-    }
-    let own = listing[at];
+// Changes the octet at `at`, which is on line `line`, to `octet`, checks the listing, and changes it back. Returns whether the change is
+// reported.
+fn reports_change(sample: &[u8], listing: &mut [u8], at: usize, octet: u8, line: u32) -> bool {
+    let Some(own) = listing.get(at).copied() else {
+        return false;
+    };
     if octet == own {
-        return 0;
+        return false;
     }
     listing[at] = octet;
-    let reported = one_if_wrong_at(sample, listing, line);
+    let reported = wrong_at(sample, listing, line);
     listing[at] = own;
     reported
 }
 
 // The number of changes of the octet at `at`, which is on line `line`, that are reported.
-fn changes_at(sample: &[u8], listing: &mut [u8], at: usize, line: u32) -> u32 {
-    let mut reported: u32 = 0;
-    for octet in 0..256u32 {
-        let one = change_octet(sample, listing, at, octet as u8, line);
-        reported = wrapping_add_u32(reported, one);
-    }
-    reported
+fn changes_at(sample: &[u8], listing: &mut [u8], at: usize, line: u32) -> usize {
+    (0..=255u8)
+        .filter(|octet| reports_change(sample, listing, at, *octet, line))
+        .count()
 }
 
 // The number of changes, of all octets, that are reported.
-fn changes(sample: &[u8], listing: &mut [u8]) -> u32 {
-    let mut reported: u32 = 0;
+fn changes(sample: &[u8], listing: &mut [u8]) -> usize {
+    let mut reported: usize = 0;
     let mut line: u32 = 1;
+    // By an index: while an octet is changed, the checker reads the whole listing.
     for at in 0..listing.len() {
-        reported = wrapping_add_u32(reported, changes_at(sample, listing, at, line));
-        line = wrapping_add_u32(line, one_if(listing[at] == b'\n'));
+        reported = reported.saturating_add(changes_at(sample, listing, at, line));
+        if listing[at] == b'\n' {
+            line = line.saturating_add(1);
+        }
     }
     reported
 }
@@ -63,13 +54,13 @@ fn changes(sample: &[u8], listing: &mut [u8]) -> u32 {
 // Makes every change, with the sample of a text, and prints how many are reported at their lines.
 pub(crate) fn every_change(rt: &impl Print, text: &[u8], listing: &[u8]) -> io::Result<()> {
     let mut file = [0u8; ROOM];
-    let n = put_sample(text, &mut file);
+    let sample = sample_of(text, &mut file);
     let mut changed = [0u8; OCTETS];
     octets::put_octets(&mut changed, 0, listing);
     write_number(
         rt,
         b"changes of one octet found at their lines: ",
-        changes(first_8(&file, n), &mut changed) as u64,
+        changes(sample, &mut changed),
     )?;
     write_word(rt, b"\n")
 }

@@ -3,29 +3,27 @@
 #![tactic(auto)]
 
 use cases::fields::field;
-use cases::lists::first_8;
 use cases::print::{write_number, write_word};
-use cases::text::{INPUT_OCTETS, count, input, part};
-use sample_text::{ROOM, put_sample};
+use cases::text::{INPUT_OCTETS, lines};
+use program::read_input;
+use sample_text::{ROOM, sample_of};
 use std::io;
 
 // Runs the case of a line.
 fn run(rt: &impl Print, line: &[u8]) -> io::Result<()> {
     let mut file = [0u8; ROOM];
-    let n = put_sample(field(line, 1), &mut file);
-    let answer = disorder::total(first_8(&file, n));
+    let answer = disorder::total(sample_of(field(line, 1), &mut file));
     write_word(rt, field(line, 0))?;
-    write_number(rt, b": refusal ", answer.refusal as u64)?;
-    write_number(rt, b", total ", answer.total as u64)?;
+    write_number(rt, b": refusal ", answer.refusal)?;
+    write_number(rt, b", total ", answer.total)?;
     write_word(rt, b"\n")
 }
 
 // Runs the cases of all lines.
 fn main(rt: HostRuntime) -> io::Result<()> {
     let mut room = [0u8; INPUT_OCTETS];
-    let text = input(&rt, &mut room)?;
-    for i in 0..count(text, b'\n') {
-        run(&rt, part(text, b'\n', i))?;
+    for line in lines(read_input(&rt, &mut room)?) {
+        run(&rt, line)?;
     }
     Ok(())
 }

@@ -5,13 +5,12 @@
 #![tactic(auto)]
 
 use cases::TOO_MANY;
-use cases::fields::{field, number_in_32};
-use cases::lists::{
-    fill_8, fill_16, fill_32, fill_64, first_8, first_16, first_32, first_64, least,
-};
-use cases::print::{write_8, write_number, write_word};
-use cases::text::{INPUT_OCTETS, count, input, number, part};
+use cases::fields::{field, number_in};
+use cases::lists::{fill, filled, first};
+use cases::print::{write_list, write_number, write_word};
+use cases::text::{INPUT_OCTETS, lines, number};
 use fragments::order;
+use program::read_input;
 use std::io;
 
 // The number of numbers: `given`, or, if that is 0, the length `listed` of the list.
@@ -31,9 +30,9 @@ fn write_lists(
     usable: &[u8],
 ) -> io::Result<()> {
     write_word(rt, name)?;
-    write_number(rt, b": refused ", refusal as u64)?;
-    write_8(rt, b"; flags", flags)?;
-    write_8(rt, b"; usable", usable)?;
+    write_number(rt, b": refused ", refusal)?;
+    write_list(rt, b"; flags", flags)?;
+    write_list(rt, b"; usable", usable)?;
     write_word(rt, b"\n")
 }
 
@@ -44,18 +43,14 @@ fn run_into(rt: &impl Print, line: &[u8], flags: &mut [u8], usable: &mut [u8]) -
     let mut lengths = [0u16; 6];
     let mut mores = [0u8; 6];
     let mut offsets = [0u16; 6];
-    let n = fill_32(field(line, 3), &mut numbers);
-    let t = fill_64(field(line, 4), &mut times);
-    let l = fill_16(field(line, 5), &mut lengths);
-    let m = fill_8(field(line, 6), &mut mores);
-    let o = fill_16(field(line, 7), &mut offsets);
+    let n = fill(field(line, 3), &mut numbers);
     let refusal = order(
-        number_in_32(line, 2),
-        first_32(&numbers, numbers_for(n, number_in_32(line, 8))),
-        first_64(&times, t),
-        first_16(&lengths, l),
-        first_8(&mores, m),
-        first_16(&offsets, o),
+        number_in(line, 2),
+        first(&numbers, numbers_for(n, number_in(line, 8))),
+        filled(field(line, 4), &mut times),
+        filled(field(line, 5), &mut lengths),
+        filled(field(line, 6), &mut mores),
+        filled(field(line, 7), &mut offsets),
         flags,
         usable,
     );
@@ -66,17 +61,17 @@ fn run_into(rt: &impl Print, line: &[u8], flags: &mut [u8], usable: &mut [u8]) -
 fn run(rt: &impl Print, line: &[u8]) -> io::Result<()> {
     let mut flags = [9u8; 6];
     let mut usable = [9u8; 6];
-    let f = least(number(field(line, 0), 0) as usize, 6);
-    let u = least(number(field(line, 0), 1) as usize, 6);
-    run_into(rt, line, &mut flags[0..f], &mut usable[0..u])
+    let lengths = field(line, 0);
+    let f = flags.len().min(number(lengths, 0) as usize);
+    let u = usable.len().min(number(lengths, 1) as usize);
+    run_into(rt, line, &mut flags[..f], &mut usable[..u])
 }
 
 // Runs the cases of all lines.
 fn main(rt: HostRuntime) -> io::Result<()> {
     let mut room = [0u8; INPUT_OCTETS];
-    let text = input(&rt, &mut room)?;
-    for i in 0..count(text, b'\n') {
-        run(&rt, part(text, b'\n', i))?;
+    for line in lines(read_input(&rt, &mut room)?) {
+        run(&rt, line)?;
     }
     Ok(())
 }

@@ -14,8 +14,9 @@
 mod run;
 mod say;
 
-use cases::text::{count, input, part};
+use cases::text::lines;
 use meter::Meter;
+use program::read_input;
 use run::run;
 use std::io;
 
@@ -25,11 +26,9 @@ const MOST: usize = 4096;
 // Does what all lines say.
 fn main(rt: HostRuntime) -> io::Result<()> {
     let mut room = [0u8; MOST];
-    let text = input(&rt, &mut room)?;
     let mut m = Meter::new();
-    for i in 0..count(text, b'\n') {
-        let next = run(&rt, m, part(text, b'\n', i))?;
-        m = next;
+    for line in lines(read_input(&rt, &mut room)?) {
+        m = run(&rt, m, line)?;
     }
     Ok(())
 }

@@ -1,7 +1,6 @@
 // The listing into lent octets.
-use cases::lists::first_8;
+use cases::lists::{first, kept};
 use cases::print::{write_either, write_number, write_word};
-use cases::same::kept_8;
 use listing::LISTING_OCTETS;
 use std::io;
 
@@ -11,11 +10,11 @@ const OCTET: u8 = 165;
 // Writes the refusal of the listing, how many octets it has, and whether the octets after it are untouched.
 fn write_listing(rt: &impl Print, file: &[u8], out: &mut [u8]) -> io::Result<()> {
     let l = metrics::listing(file, out);
-    write_number(rt, b"; listing ", l.refusal as u64)?;
-    write_number(rt, b", octets ", l.length as u64)?;
+    write_number(rt, b"; listing ", l.refusal)?;
+    write_number(rt, b", octets ", l.length)?;
     write_either(
         rt,
-        kept_8(out, l.length as usize, OCTET),
+        kept(out, l.length as usize, OCTET),
         b", the rest untouched",
         b", the rest TOUCHED",
     )
@@ -25,7 +24,7 @@ fn write_listing(rt: &impl Print, file: &[u8], out: &mut [u8]) -> io::Result<()>
 pub(crate) fn list_into(rt: &impl Print, file: &[u8], room: usize) -> io::Result<()> {
     let mut out = [OCTET; LISTING_OCTETS];
     if room <= LISTING_OCTETS {
-        write_listing(rt, file, &mut out[0..room])?;
+        write_listing(rt, file, &mut out[..room])?;
     }
     Ok(())
 }
@@ -34,5 +33,5 @@ pub(crate) fn list_into(rt: &impl Print, file: &[u8], room: usize) -> io::Result
 pub(crate) fn list(rt: &impl Print, file: &[u8]) -> io::Result<()> {
     let mut out = [OCTET; LISTING_OCTETS];
     let l = metrics::listing(file, &mut out);
-    write_word(rt, first_8(&out, l.length as usize))
+    write_word(rt, first(&out, l.length as usize))
 }

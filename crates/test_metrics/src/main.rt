@@ -12,13 +12,13 @@
 mod figures;
 mod listings;
 
-use cases::fields::{field, first_octet, number_in, number_in_32};
-use cases::lists::first_8;
+use cases::fields::{field, number_in};
 use cases::print::write_word;
-use cases::text::{count, input, part};
-use figures::{write_all, write_ratio, write_record, write_rows, write_steps};
+use cases::text::lines;
+use figures::{Sizes, write_all, write_ratio, write_record, write_rows, write_steps};
 use listings::{list, list_into};
-use sample_text::{ROOM, put_sample};
+use program::read_input;
+use sample_text::{ROOM, sample_of};
 use std::io;
 
 // How many octets of cases are read at most.
@@ -26,48 +26,43 @@ const MOST: usize = 4096;
 
 // Writes what a line asks of its sample.
 fn write_case(rt: &impl Print, line: &[u8], file: &[u8]) -> io::Result<()> {
-    let kind = first_octet(line);
-    let number = number_in_32(line, 3);
-    if kind == b'a' {
-        write_all(rt, file)?;
-    } else if kind == b'r' {
-        write_record(rt, file, number)?;
-    } else if kind == b'n' {
-        write_ratio(rt, file, number)?;
-    } else if kind == b'o' {
-        list_into(rt, file, number as usize)?;
-    } else if kind == b'f' {
-        write_rows(rt, file, number)?;
-    } else if kind == b's' {
-        write_steps(
-            rt,
-            file,
-            number_in(line, 3),
-            number_in_32(line, 4),
-            number_in(line, 5) as usize,
-        )?;
+    let number = number_in::<u32>(line, 3);
+    match line.first() {
+        Some(b'a') => write_all(rt, file)?,
+        Some(b'r') => write_record(rt, file, number)?,
+        Some(b'n') => write_ratio(rt, file, number)?,
+        Some(b'o') => list_into(rt, file, number as usize)?,
+        Some(b'f') => write_rows(rt, file, number)?,
+        Some(b's') => {
+            let sizes = Sizes {
+                low: number_in(line, 3),
+                shift: number_in(line, 4),
+                shown: number_in::<u64>(line, 5) as usize,
+            };
+            write_steps(rt, file, sizes)?
+        }
+        Some(b'l') => {
+            write_word(rt, b"\n")?;
+            return list(rt, file);
+        }
+        _ => {}
     }
-    write_word(rt, b"\n")?;
-    if kind == b'l' {
-        list(rt, file)?;
-    }
-    Ok(())
+    write_word(rt, b"\n")
 }
 
 // Runs the case of a line.
 fn run(rt: &impl Print, line: &[u8]) -> io::Result<()> {
     let mut file = [0u8; ROOM];
-    let n = put_sample(field(line, 2), &mut file);
+    let octets = sample_of(field(line, 2), &mut file);
     write_word(rt, field(line, 1))?;
-    write_case(rt, line, first_8(&file, n))
+    write_case(rt, line, octets)
 }
 
 // Runs the cases of all lines.
 fn main(rt: HostRuntime) -> io::Result<()> {
     let mut room = [0u8; MOST];
-    let text = input(&rt, &mut room)?;
-    for i in 0..count(text, b'\n') {
-        run(&rt, part(text, b'\n', i))?;
+    for line in lines(read_input(&rt, &mut room)?) {
+        run(&rt, line)?;
     }
     Ok(())
 }

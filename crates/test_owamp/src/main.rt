@@ -14,8 +14,8 @@ mod lists;
 mod many;
 mod writing;
 
-use cases::fields::first_octet;
-use cases::text::{INPUT_OCTETS, count, input, part};
+use cases::text::{INPUT_OCTETS, lines};
+use program::read_input;
 use std::io;
 
 // What the octets of a record hold that are not read: all but the four of the sequence number, at offset 0, and the eight of the receive
@@ -24,9 +24,9 @@ pub(crate) const OTHER: u8 = 9;
 
 // Runs the case of a line.
 fn run(rt: &impl Print, line: &[u8]) -> io::Result<()> {
-    match first_octet(line) {
-        b'f' => few::run(rt, line),
-        b'm' => many::run(rt, line),
+    match line.first() {
+        Some(b'f') => few::run(rt, line),
+        Some(b'm') => many::run(rt, line),
         _ => writing::run(rt, line),
     }
 }
@@ -34,9 +34,8 @@ fn run(rt: &impl Print, line: &[u8]) -> io::Result<()> {
 // Runs the cases of all lines.
 fn main(rt: HostRuntime) -> io::Result<()> {
     let mut room = [0u8; INPUT_OCTETS];
-    let text = input(&rt, &mut room)?;
-    for i in 0..count(text, b'\n') {
-        run(&rt, part(text, b'\n', i))?;
+    for line in lines(read_input(&rt, &mut room)?) {
+        run(&rt, line)?;
     }
     Ok(())
 }

@@ -8,108 +8,89 @@
 //   made: the name of the case, K of a fresh receiver, and K of the one that it must be the same as.
 #![tactic(auto)]
 
-use cases::fields::{field, first_octet, number_in, number_in_32};
+use cases::element::Element;
+use cases::fields::{field, number_in};
 use cases::print::{write_either, write_number, write_word};
-use cases::text::{count, input, part};
+use cases::series::Series;
+use cases::text::lines;
+use program::read_input;
 use receiver::Receiver;
-use receiver_text::same::same;
 use receiver_text::write_outcome;
 use std::io;
-use std::num::{wrapping_add_u32, wrapping_add_u64};
 
 // How many octets of cases are read at most.
 const MOST: usize = 4096;
 
 // A fresh receiver for k packets.
 fn receiver_for(k: u32) -> Receiver {
-    let start = Receiver::fresh(k);
-    start.state
+    Receiver::fresh(k).state
 }
 
 // The receiver after the arrivals of a line.
 fn fed(start: Receiver, line: &[u8]) -> Receiver {
-    let rise = number_in_32(line, 2);
-    let apart = number_in(line, 5);
+    let numbers = Series {
+        next: number_in::<u32>(line, 1) as u64,
+        step: number_in::<u32>(line, 2) as u64,
+    };
+    let times = Series {
+        next: number_in(line, 4),
+        step: number_in(line, 5),
+    };
     let mut r = start;
-    let mut number = number_in_32(line, 1);
-    let mut time = number_in(line, 4);
-    for _ in 0..number_in_32(line, 3) {
-        let s = r.step(number, time);
-        let next = s.state;
-        r = next;
-        number = wrapping_add_u32(number, rise);
-        time = wrapping_add_u64(time, apart);
+    for (number, time) in numbers.zip(times).take(number_in::<u32>(line, 3) as usize) {
+        r = r.step(u32::wrapped(number), time).state;
     }
     r
 }
 
 // The receiver with what a line sets.
 fn changed(r: Receiver, line: &[u8]) -> Receiver {
-    let next = number_in_32(line, 1);
-    let kept = number_in_32(line, 2);
-    let greatest = number_in(line, 3);
     let mut other = r;
-    other.stream.next = next;
-    other.stream.kept = kept;
-    other.stream.greatest = greatest;
+    other.stream.next = number_in(line, 1);
+    other.stream.kept = number_in(line, 2);
+    other.stream.greatest = number_in(line, 3);
     other
 }
 
 // Feeds the arrival of a line, and writes the case's name, what is said, and where that is a refusal whether the receiver came back the
 // same.
 fn arrives(rt: &impl Print, r: Receiver, line: &[u8]) -> io::Result<()> {
-    let s = r.step(number_in_32(line, 2), number_in(line, 3));
-    let outcome = s.outcome;
-    let after = s.state;
+    let s = r.step(number_in(line, 2), number_in(line, 3));
     write_word(rt, field(line, 1))?;
     write_word(rt, b": ")?;
-    write_outcome(rt, outcome)?;
-    if outcome.refusal != 0 {
-        write_either(
-            rt,
-            same(r, after),
-            b", receiver equal",
-            b", receiver CHANGED",
-        )?;
+    write_outcome(rt, s.outcome)?;
+    if s.outcome.refusal != 0 {
+        write_either(rt, r == s.state, b", receiver equal", b", receiver CHANGED")?;
     }
     write_word(rt, b"\n")
 }
 
 // Makes the receiver of a line, and writes the case's name, the refusal, and whether it is the same as the other.
 fn made(rt: &impl Print, line: &[u8]) -> io::Result<()> {
-    let start = Receiver::fresh(number_in_32(line, 2));
-    let state = start.state;
-    let expected = receiver_for(number_in_32(line, 3));
+    let start = Receiver::fresh(number_in(line, 2));
+    let expected = receiver_for(number_in(line, 3));
     write_word(rt, field(line, 1))?;
-    write_number(rt, b": refused ", start.refusal as u64)?;
-    write_number(rt, b", K ", state.stream.sent as u64)?;
-    write_number(rt, b", NextExp ", state.stream.next as u64)?;
+    write_number(rt, b": refused ", start.refusal)?;
+    write_number(rt, b", K ", start.state.stream.sent)?;
+    write_number(rt, b", NextExp ", start.state.stream.next)?;
     write_either(
         rt,
-        same(state, expected),
+        start.state == expected,
         b", as fresh for K ",
         b", NOT as fresh for K ",
     )?;
-    write_number(rt, b"", number_in(line, 3))?;
+    write_number(rt, b"", number_in::<u64>(line, 3))?;
     write_word(rt, b"\n")
 }
 
-// Does what a line says, and gives the receiver after it.
+// Does what a line says, and returns the receiver after it.
 fn run(rt: &impl Print, r: Receiver, line: &[u8]) -> io::Result<Receiver> {
-    let kind = first_octet(line);
-    if kind == b'n' {
-        return Ok(receiver_for(number_in_32(line, 1)));
-    }
-    if kind == b'f' {
-        return Ok(fed(r, line));
-    }
-    if kind == b's' {
-        return Ok(changed(r, line));
-    }
-    if kind == b'm' {
-        made(rt, line)?;
-    } else {
-        arrives(rt, r, line)?;
+    match line.first() {
+        Some(b'n') => return Ok(receiver_for(number_in(line, 1))),
+        Some(b'f') => return Ok(fed(r, line)),
+        Some(b's') => return Ok(changed(r, line)),
+        Some(b'm') => made(rt, line)?,
+        _ => arrives(rt, r, line)?,
     }
     Ok(r)
 }
@@ -117,11 +98,9 @@ fn run(rt: &impl Print, r: Receiver, line: &[u8]) -> io::Result<Receiver> {
 // Does what all lines say.
 fn main(rt: HostRuntime) -> io::Result<()> {
     let mut room = [0u8; MOST];
-    let text = input(&rt, &mut room)?;
     let mut r = receiver_for(1);
-    for i in 0..count(text, b'\n') {
-        let next = run(&rt, r, part(text, b'\n', i))?;
-        r = next;
+    for line in lines(read_input(&rt, &mut room)?) {
+        r = run(&rt, r, line)?;
     }
     Ok(())
 }

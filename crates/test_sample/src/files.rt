@@ -1,11 +1,10 @@
 // The cases that read a file: each is checked, read into the caller's lists, its label shown, and written again.
 use crate::build::put_file;
-use crate::memory::{NUMBER, OCTET, ROOM, SIZE, TIME};
+use crate::memory::{Lists, NUMBER, OCTET, ROOM, SIZE, TIME};
 use cases::TOO_MANY;
-use cases::fields::{field, number_in_16};
-use cases::lists::{first_8, first_16, first_32, first_64, least};
+use cases::fields::{field, number_in};
+use cases::lists::{first, kept};
 use cases::print::{write_either, write_number, write_word};
-use cases::same::{kept_16, kept_32, kept_64};
 use cases::text::number;
 use sample::Layout;
 use std::io;
@@ -16,27 +15,21 @@ const SHORT_LENGTH: usize = 5;
 // Prints the layout of a file: the refusal, or the length of the label, K and A.
 fn write_layout(rt: &impl Print, layout: Layout) -> io::Result<()> {
     if layout.refusal != 0 {
-        write_number(rt, b"refused ", layout.refusal as u64)
+        write_number(rt, b"refused ", layout.refusal)
     } else {
-        write_number(rt, b"label ", layout.label as u64)?;
-        write_number(rt, b" K ", layout.sent as u64)?;
-        write_number(rt, b" A ", layout.arrivals as u64)
+        write_number(rt, b"label ", layout.label)?;
+        write_number(rt, b" K ", layout.sent)?;
+        write_number(rt, b" A ", layout.arrivals)
     }
 }
 
 // Prints whether the octets written from what was read are the file.
-fn write_again(
-    rt: &impl Print,
-    file: &[u8],
-    sizes: &[u16],
-    numbers: &[u32],
-    times: &[u64],
-) -> io::Result<()> {
+fn write_again(rt: &impl Print, file: &[u8], lists: Lists<'_>) -> io::Result<()> {
     let mut out = [OCTET; ROOM];
-    let w = sample::write(sample::label(file), sizes, numbers, times, &mut out);
+    let w = lists.write(sample::label(file), &mut out);
     write_either(
         rt,
-        first_8(&out, w.length as usize) == file,
+        first(&out, w.length as usize) == file,
         b"; written again the same",
         b"; written again ANOTHER",
     )
@@ -44,21 +37,14 @@ fn write_again(
 
 // Prints what was read of a file, whether the elements that are not filled are untouched, and the length of the label
 // shown. For an accepted file it prints whether it is written again the same.
-fn write_read(
-    rt: &impl Print,
-    layout: Layout,
-    file: &[u8],
-    sizes: &[u16],
-    numbers: &[u32],
-    times: &[u64],
-) -> io::Result<()> {
+fn write_read(rt: &impl Print, layout: Layout, file: &[u8], lists: Lists<'_>) -> io::Result<()> {
     let sent = layout.sent as usize;
     let arrivals = layout.arrivals as usize;
     write_word(rt, b"; read ")?;
     write_layout(rt, layout)?;
-    if kept_16(sizes, sent, SIZE)
-        && kept_32(numbers, arrivals, NUMBER)
-        && kept_64(times, arrivals, TIME)
+    if kept(lists.sizes, sent, SIZE)
+        && kept(lists.numbers, arrivals, NUMBER)
+        && kept(lists.times, arrivals, TIME)
     {
         write_either(
             rt,
@@ -69,15 +55,9 @@ fn write_read(
     } else {
         write_word(rt, b", places TOUCHED")?;
     }
-    write_number(rt, b"; label shown ", sample::label(file).len() as u64)?;
+    write_number(rt, b"; label shown ", sample::label(file).len())?;
     if layout.refusal == 0 {
-        write_again(
-            rt,
-            file,
-            first_16(sizes, sent),
-            first_32(numbers, arrivals),
-            first_64(times, arrivals),
-        )?;
+        write_again(rt, file, lists.first(sent, arrivals))?;
     }
     Ok(())
 }
@@ -91,7 +71,12 @@ fn read_into(
     times: &mut [u64],
 ) -> io::Result<()> {
     let layout = sample::read(file, sizes, numbers, times);
-    write_read(rt, layout, file, sizes, numbers, times)
+    let lists = Lists {
+        sizes,
+        numbers,
+        times,
+    };
+    write_read(rt, layout, file, lists)
 }
 
 // Prints the name of a file, its layout, and what is read into lists that are long enough.
@@ -106,25 +91,21 @@ fn read_all(rt: &impl Print, name: &[u8], file: &[u8]) -> io::Result<()> {
     write_word(rt, b"\n")
 }
 
-// Changes a number in a file: the numbers n to n + 2 of `changes` are its offset, its width and its value. If they are not given, the width
-// is 0, and nothing changes.
-fn change_number(file: &mut [u8], changes: &[u8], n: u16) {
-    let at = number(changes, n as usize) % 65_536;
-    let width = number(changes, n as usize + 1) % 65_536;
-    octets::put_number(
-        file,
-        at as usize,
-        width as usize,
-        number(changes, n as usize + 2),
-    );
+// Makes change i of a file, from 0: the numbers 3 * i to 3 * i + 2 of `changes` are the offset, the width and the value of a number in it.
+// If they are not given, the width is 0, and nothing changes.
+fn change_number(file: &mut [u8], changes: &[u8], i: u16) {
+    let n = 3 * (i as usize);
+    let at = number(changes, n) % 65_536;
+    let width = number(changes, n + 1) % 65_536;
+    octets::put_number(file, at as usize, width as usize, number(changes, n + 2));
 }
 
 // The number in field n of a line; `other` if the field is empty.
 fn number_or(line: &[u8], n: usize, other: usize) -> usize {
-    if field(line, n).len() == 0 {
+    if field(line, n).is_empty() {
         return other;
     }
-    number_in_16(line, n) as usize
+    number_in::<u16>(line, n) as usize
 }
 
 // Runs the case of a file.
@@ -132,16 +113,14 @@ pub(crate) fn run(rt: &impl Print, line: &[u8]) -> io::Result<()> {
     let mut file = [b'x'; ROOM];
     let n = put_file(
         &mut file,
-        number_in_16(line, 2),
-        number_in_16(line, 3),
-        number_in_16(line, 4),
+        number_in(line, 2),
+        number_in(line, 3),
+        number_in(line, 4),
     );
-    let changes = field(line, 5);
-    change_number(&mut file, changes, 0);
-    change_number(&mut file, changes, 3);
-    change_number(&mut file, changes, 6);
-    change_number(&mut file, changes, 9);
-    read_all(rt, field(line, 1), first_8(&file, number_or(line, 6, n)))
+    for i in 0..4u16 {
+        change_number(&mut file, field(line, 5), i);
+    }
+    read_all(rt, field(line, 1), first(&file, number_or(line, 6, n)))
 }
 
 // Runs the case of the file of five arrivals, read into lists of the lengths that the line says.
@@ -151,16 +130,16 @@ pub(crate) fn run_into(rt: &impl Print, line: &[u8]) -> io::Result<()> {
     let mut sizes = [SIZE; SHORT_LENGTH];
     let mut numbers = [NUMBER; SHORT_LENGTH];
     let mut times = [TIME; SHORT_LENGTH];
-    let s = least(number_in_16(line, 2) as usize, SHORT_LENGTH);
-    let n = least(number_in_16(line, 3) as usize, SHORT_LENGTH);
-    let t = least(number_in_16(line, 4) as usize, SHORT_LENGTH);
+    let s = SHORT_LENGTH.min(number_in::<u16>(line, 2) as usize);
+    let n = SHORT_LENGTH.min(number_in::<u16>(line, 3) as usize);
+    let t = SHORT_LENGTH.min(number_in::<u16>(line, 4) as usize);
     write_word(rt, field(line, 1))?;
     read_into(
         rt,
         &file,
-        &mut sizes[0..s],
-        &mut numbers[0..n],
-        &mut times[0..t],
+        &mut sizes[..s],
+        &mut numbers[..n],
+        &mut times[..t],
     )?;
     write_word(rt, b"\n")
 }

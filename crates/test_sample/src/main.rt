@@ -14,15 +14,15 @@ mod files;
 mod memory;
 mod writer;
 
-use cases::fields::first_octet;
-use cases::text::{INPUT_OCTETS, count, input, part};
+use cases::text::{INPUT_OCTETS, lines};
+use program::read_input;
 use std::io;
 
 // Runs the case of a line.
 fn run(rt: &impl Print, line: &[u8]) -> io::Result<()> {
-    match first_octet(line) {
-        b'f' => files::run(rt, line),
-        b'i' => files::run_into(rt, line),
+    match line.first() {
+        Some(b'f') => files::run(rt, line),
+        Some(b'i') => files::run_into(rt, line),
         _ => writer::run(rt, line),
     }
 }
@@ -30,9 +30,8 @@ fn run(rt: &impl Print, line: &[u8]) -> io::Result<()> {
 // Runs the cases of all lines.
 fn main(rt: HostRuntime) -> io::Result<()> {
     let mut room = [0u8; INPUT_OCTETS];
-    let text = input(&rt, &mut room)?;
-    for i in 0..count(text, b'\n') {
-        run(&rt, part(text, b'\n', i))?;
+    for line in lines(read_input(&rt, &mut room)?) {
+        run(&rt, line)?;
     }
     Ok(())
 }

@@ -12,32 +12,42 @@ mod lists;
 mod print;
 mod steps;
 
-use cases::fields::{field, first_octet};
-use cases::text::{INPUT_OCTETS, count, input, number, part};
+use cases::fields::field;
+use cases::text::{INPUT_OCTETS, lines, number};
+use program::read_input;
 use std::io;
 
-// Whether the short numbers of a line have 8 bits, and not 10.
-pub(crate) fn of_eight_bits(line: &[u8]) -> bool {
-    number(field(line, 0), 1) == 8
+// The bits of short numbers.
+#[derive(Clone, Copy, PartialEq, Eq)]
+pub(crate) enum Bits {
+    Eight,
+    Ten,
+}
+
+// The bits of the short numbers of a line.
+pub(crate) fn bits_of(line: &[u8]) -> Bits {
+    match number(field(line, 0), 1) {
+        8 => Bits::Eight,
+        _ => Bits::Ten,
+    }
 }
 
 // Runs the case of a line.
 fn run(rt: &impl Print, line: &[u8]) -> io::Result<()> {
-    match first_octet(line) {
-        b'l' => lists::run(rt, line),
-        b'm' => lists::run_many(rt, line),
-        b's' => steps::run(rt, line),
-        b'n' => steps::run_next(rt, line),
-        _ => Ok(())
+    match line.first() {
+        Some(b'l') => lists::run(rt, line),
+        Some(b'm') => lists::run_many(rt, line),
+        Some(b's') => steps::run(rt, line),
+        Some(b'n') => steps::run_next(rt, line),
+        _ => Ok(()),
     }
 }
 
 // Runs the cases of all lines.
 fn main(rt: HostRuntime) -> io::Result<()> {
     let mut room = [0u8; INPUT_OCTETS];
-    let text = input(&rt, &mut room)?;
-    for i in 0..count(text, b'\n') {
-        run(&rt, part(text, b'\n', i))?;
+    for line in lines(read_input(&rt, &mut room)?) {
+        run(&rt, line)?;
     }
     Ok(())
 }

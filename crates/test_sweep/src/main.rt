@@ -10,13 +10,13 @@ mod lists;
 
 ghost use Rattle.std.specs.Prelude.{◌≤◌};
 
-use cases::fields::{field, number_in, number_in_16};
-use cases::lists::first_8;
+use cases::fields::{field, number_in};
 use cases::print::{write_number, write_word};
-use cases::text::{INPUT_OCTETS, count, input, part};
-use lists::{write_lists, write_table};
+use cases::text::{INPUT_OCTETS, lines};
+use lists::{Lists, write_lists, write_table};
+use program::read_input;
 use sample::Layout;
-use sample_text::{ROOM, put_sample};
+use sample_text::{ROOM, sample_of};
 use std::io;
 
 // The greatest length of the table and of each list.
@@ -35,17 +35,17 @@ pub(crate) const TIME: u64 = 999_999_999_999;
 fn length_in(line: &[u8], n: usize) -> usize
     ensures { result ≤ 4100 }
 {
-    (number_in(line, n) % 4101) as usize
+    (number_in::<u64>(line, n) % 4101) as usize
 }
 
 // Prints a case's name and its answer: the refusal, or K and A.
 fn write_layout(rt: &impl Print, name: &[u8], layout: Layout) -> io::Result<()> {
     write_word(rt, name)?;
     if layout.refusal != 0 {
-        write_number(rt, b": refused ", layout.refusal as u64)
+        write_number(rt, b": refused ", layout.refusal)
     } else {
-        write_number(rt, b": K ", layout.sent as u64)?;
-        write_number(rt, b" A ", layout.arrivals as u64)
+        write_number(rt, b": K ", layout.sent)?;
+        write_number(rt, b" A ", layout.arrivals)
     }
 }
 
@@ -62,16 +62,14 @@ fn sweep_into(
 ) -> io::Result<()> {
     let layout = sweep::sweep(file, table, flags, positions, extents, lates);
     write_layout(rt, field(line, 1), layout)?;
-    write_lists(
-        rt,
-        line,
-        layout.arrivals as usize,
+    let lists = Lists {
         flags,
         positions,
         extents,
         lates,
-    )?;
-    write_table(rt, layout.refusal, table, number_in_16(line, 3))
+    };
+    write_lists(rt, line, layout.arrivals as usize, lists)?;
+    write_table(rt, layout.refusal, table, number_in(line, 3))
 }
 
 // Sweeps a file into lists of the lengths that the line says.
@@ -89,29 +87,28 @@ fn sweep_lists(rt: &impl Print, line: &[u8], file: &[u8], table: &mut [u16]) -> 
         line,
         file,
         table,
-        &mut flags[0..f],
-        &mut positions[0..p],
-        &mut extents[0..e],
-        &mut lates[0..l],
+        &mut flags[..f],
+        &mut positions[..p],
+        &mut extents[..e],
+        &mut lates[..l],
     )
 }
 
 // Runs the case of a line.
 fn run(rt: &impl Print, line: &[u8]) -> io::Result<()> {
     let mut file = [0u8; ROOM];
-    let n = put_sample(field(line, 2), &mut file);
-    let before = number_in_16(line, 3);
+    let octets = sample_of(field(line, 2), &mut file);
+    let before: u16 = number_in(line, 3);
     let mut table = [before; MAX_LENGTH];
     let m = length_in(line, 4);
-    sweep_lists(rt, line, first_8(&file, n), &mut table[0..m])
+    sweep_lists(rt, line, octets, &mut table[..m])
 }
 
 // Runs the cases of all lines.
 fn main(rt: HostRuntime) -> io::Result<()> {
     let mut room = [0u8; INPUT_OCTETS];
-    let text = input(&rt, &mut room)?;
-    for i in 0..count(text, b'\n') {
-        run(&rt, part(text, b'\n', i))?;
+    for line in lines(read_input(&rt, &mut room)?) {
+        run(&rt, line)?;
     }
     Ok(())
 }

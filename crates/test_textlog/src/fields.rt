@@ -1,5 +1,5 @@
 // The octets of a log in a case's line. There `$` stands for a line feed, `&` for a carriage return, `#` for octet 0, `@` for octet 255.
-use cases::lists::least;
+use cases::lists::first;
 
 // The octet that an octet of a line stands for.
 fn octet_for(octet: u8) -> u8 {
@@ -12,11 +12,10 @@ fn octet_for(octet: u8) -> u8 {
     }
 }
 
-// Writes the octets that those of a field stand for, as far as there is room; returns how many there are.
-pub(crate) fn put_octets_for(field: &[u8], out: &mut [u8]) -> usize {
-    let n = least(field.len(), out.len());
-    for i in 0..n {
-        out[i] = octet_for(field[i]);
+// Writes the octets that those of a field stand for into `room`, as far as there is room; returns them.
+pub(crate) fn octets_for<'a>(field: &[u8], room: &'a mut [u8]) -> &'a [u8] {
+    for (place, octet) in room.iter_mut().zip(field) {
+        *place = octet_for(*octet);
     }
-    n
+    first(room, field.len())
 }

@@ -1,7 +1,8 @@
 // The lists of an import: what fills them before it, and what is printed of them after it.
-use cases::lists::{first_32, first_64};
-use cases::print::{write_32, write_64, write_answer, write_number, write_word};
-use cases::totals::{sum_32, sum_64};
+use cases::lists::first;
+use cases::print::{write_answer, write_list, write_number, write_word};
+use cases::totals::sums_of;
+use std::fmt::Display;
 use std::io;
 use textlog::LogImport;
 
@@ -14,49 +15,72 @@ pub(crate) const TIME: u64 = 99;
 // What octets are filled with.
 pub(crate) const OCTET: u8 = b'.';
 
-// Imports a log of numbers of 8 or 10 bits or, for any other `bits`, of full numbers.
-fn import(bits: u64, k: u32, log: &[u8], numbers: &mut [u32], times: &mut [u64]) -> LogImport {
-    if bits == 8 {
-        return shortlog::import_8(log, k, numbers, times);
-    }
-    if bits == 10 {
-        return shortlog::import_10(log, k, numbers, times);
-    }
-    textlog::import(log, k, numbers, times)
+// The numbers of a log: short ones of 8 or 10 bits, or full ones.
+#[derive(Clone, Copy)]
+pub(crate) enum Width {
+    Eight,
+    Ten,
+    Full,
 }
 
-// The refused line of such a log.
-fn refused_line(bits: u64, k: u32, log: &[u8]) -> u32 {
-    if bits == 8 {
-        return shortlog::refused_line_8(log, k);
+impl Width {
+    // The width of short numbers of 8 or 10 bits or, for any other `bits`, of full numbers.
+    pub(crate) fn of_bits(bits: u64) -> Width {
+        match bits {
+            8 => Width::Eight,
+            10 => Width::Ten,
+            _ => Width::Full,
+        }
     }
-    if bits == 10 {
-        return shortlog::refused_line_10(log, k);
+}
+
+// A log to import: the case's name, the width of its numbers, K, and its octets.
+#[derive(Clone, Copy)]
+pub(crate) struct Log<'a> {
+    pub(crate) name: &'a [u8],
+    pub(crate) width: Width,
+    pub(crate) k: u32,
+    pub(crate) octets: &'a [u8],
+}
+
+impl<'a> Log<'a> {
+    // Imports the log into two lists.
+    fn import(self, numbers: &mut [u32], times: &mut [u64]) -> LogImport {
+        match self.width {
+            Width::Eight => shortlog::import_8(self.octets, self.k, numbers, times),
+            Width::Ten => shortlog::import_10(self.octets, self.k, numbers, times),
+            Width::Full => textlog::import(self.octets, self.k, numbers, times),
+        }
     }
-    textlog::refused_line(log, k)
+
+    // The refused line of the log, 0 for none.
+    fn refused_line(self) -> u32 {
+        match self.width {
+            Width::Eight => shortlog::refused_line_8(self.octets, self.k),
+            Width::Ten => shortlog::refused_line_10(self.octets, self.k),
+            Width::Full => textlog::refused_line(self.octets, self.k),
+        }
+    }
 }
 
 // Imports a log, and prints the answer and the number of the refused line, if one is refused.
 fn write_import(
     rt: &impl Print,
-    bits: u64,
-    name: &[u8],
-    k: u32,
-    log: &[u8],
+    log: Log<'_>,
     numbers: &mut [u32],
     times: &mut [u64],
 ) -> io::Result<()> {
-    let imported = import(bits, k, log, numbers, times);
-    let line = refused_line(bits, k, log);
+    let imported = log.import(numbers, times);
+    let line = log.refused_line();
     write_answer(
         rt,
-        name,
+        log.name,
         imported.refusal,
         b": arrivals ",
-        imported.arrivals as u64,
+        u64::from(imported.arrivals),
     )?;
     if line != 0 {
-        write_number(rt, b" at line ", line as u64)?;
+        write_number(rt, b" at line ", line)?;
     }
     Ok(())
 }
@@ -64,52 +88,38 @@ fn write_import(
 // Imports a log into two lists, and prints the answer and both lists.
 pub(crate) fn import_into(
     rt: &impl Print,
-    bits: u64,
-    name: &[u8],
-    k: u32,
-    log: &[u8],
+    log: Log<'_>,
     numbers: &mut [u32],
     times: &mut [u64],
 ) -> io::Result<()> {
-    write_import(rt, bits, name, k, log, numbers, times)?;
-    write_32(rt, b"; numbers", numbers)?;
-    write_64(rt, b"; times", times)?;
+    write_import(rt, log, numbers, times)?;
+    write_list(rt, b"; numbers", numbers)?;
+    write_list(rt, b"; times", times)?;
     write_word(rt, b"\n")
 }
 
-// Prints the first and the last number of a list, and the sum of all.
-fn sum_up_numbers(rt: &impl Print, s: &[u32]) -> io::Result<()> {
-    let n = s.len();
-    let all = sum_32(s);
-    write_32(rt, b"; numbers", first_32(s, 1))?;
-    if 0 < n {
-        write_32(rt, b"", &s[n - 1..n])?;
+// Prints the first and the last element of a list, and the sum of all.
+fn sum_up<T: Display + Copy + Into<u64>>(
+    rt: &impl Print,
+    word: &[u8],
+    list: &[T],
+) -> io::Result<()> {
+    write_list(rt, word, first(list, 1))?;
+    if let Some(last) = list.last() {
+        write_number(rt, b" ", *last)?;
     }
-    write_number(rt, b" ", all.sum)
-}
-
-// Prints the first and the last time of a list, and the sum of all.
-fn sum_up_times(rt: &impl Print, s: &[u64]) -> io::Result<()> {
-    let n = s.len();
-    let all = sum_64(s);
-    write_64(rt, b"; times", first_64(s, 1))?;
-    if 0 < n {
-        write_64(rt, b"", &s[n - 1..n])?;
-    }
-    write_number(rt, b" ", all.sum)
+    write_number(rt, b" ", sums_of(list).sum)
 }
 
 // Imports a log into two long lists, and prints the answer and, of each list, the first and the last element and the sum.
 pub(crate) fn import_and_sum(
     rt: &impl Print,
-    name: &[u8],
-    k: u32,
-    log: &[u8],
+    log: Log<'_>,
     numbers: &mut [u32],
     times: &mut [u64],
 ) -> io::Result<()> {
-    write_import(rt, 0, name, k, log, numbers, times)?;
-    sum_up_numbers(rt, numbers)?;
-    sum_up_times(rt, times)?;
+    write_import(rt, log, numbers, times)?;
+    sum_up(rt, b"; numbers", numbers)?;
+    sum_up(rt, b"; times", times)?;
     write_word(rt, b"\n")
 }

@@ -15,29 +15,27 @@ mod long;
 mod short;
 mod writing;
 
-use cases::fields::first_octet;
-use cases::text::{INPUT_OCTETS, count, input, part};
+use cases::text::{INPUT_OCTETS, lines};
+use program::read_input;
 use std::io;
 
 // Runs the case of a line.
 fn run(rt: &impl Print, line: &[u8]) -> io::Result<()> {
-    match first_octet(line) {
-        b'r' => short::run(rt, line),
-        b's' => short::run(rt, line),
-        b'l' => long::run_lines(rt, line),
-        b'd' => long::run_digits(rt, line),
-        b'w' => writing::run(rt, line),
-        b'm' => writing::run_many(rt, line),
-        _ => Ok(())
+    match line.first() {
+        Some(b'r' | b's') => short::run(rt, line),
+        Some(b'l') => long::run_lines(rt, line),
+        Some(b'd') => long::run_digits(rt, line),
+        Some(b'w') => writing::run(rt, line),
+        Some(b'm') => writing::run_many(rt, line),
+        _ => Ok(()),
     }
 }
 
 // Runs the cases of all lines.
 fn main(rt: HostRuntime) -> io::Result<()> {
     let mut room = [0u8; INPUT_OCTETS];
-    let text = input(&rt, &mut room)?;
-    for i in 0..count(text, b'\n') {
-        run(&rt, part(text, b'\n', i))?;
+    for line in lines(read_input(&rt, &mut room)?) {
+        run(&rt, line)?;
     }
     Ok(())
 }

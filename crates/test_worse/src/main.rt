@@ -4,19 +4,18 @@
 #![tactic(auto)]
 
 use cases::fields::field;
-use cases::lists::first_8;
 use cases::print::{write_number, write_word};
-use cases::text::{INPUT_OCTETS, count, input, part};
-use sample_text::{ROOM, put_sample};
+use cases::text::{INPUT_OCTETS, lines};
+use program::read_input;
+use sample_text::{ROOM, sample_of};
 use std::io;
 use worse::{Link, compare, worse};
 
 // Compares two samples, and prints the refusal, which is the worse one, and its label.
-fn write_comparison<'a>(rt: &impl Print, first: &'a [u8], second: &'a [u8]) -> io::Result<()> {
+fn write_comparison(rt: &impl Print, first: &[u8], second: &[u8]) -> io::Result<()> {
     let comparison = compare(first, second);
-    write_number(rt, b": refusal ", comparison.refusal as u64)?;
-    let link = comparison.link;
-    match link {
+    write_number(rt, b": refusal ", comparison.refusal)?;
+    match comparison.link {
         Link::Refused => write_word(rt, b", none [")?,
         Link::First => write_word(rt, b", first [")?,
         Link::Second => write_word(rt, b", second [")?,
@@ -29,18 +28,17 @@ fn write_comparison<'a>(rt: &impl Print, first: &'a [u8], second: &'a [u8]) -> i
 fn run(rt: &impl Print, line: &[u8]) -> io::Result<()> {
     let mut a = [0u8; ROOM];
     let mut b = [0u8; ROOM];
-    let m = put_sample(field(line, 1), &mut a);
-    let n = put_sample(field(line, 2), &mut b);
+    let first = sample_of(field(line, 1), &mut a);
+    let second = sample_of(field(line, 2), &mut b);
     write_word(rt, field(line, 0))?;
-    write_comparison(rt, first_8(&a, m), first_8(&b, n))
+    write_comparison(rt, first, second)
 }
 
 // Runs the cases of all lines.
 fn main(rt: HostRuntime) -> io::Result<()> {
     let mut room = [0u8; INPUT_OCTETS];
-    let text = input(&rt, &mut room)?;
-    for i in 0..count(text, b'\n') {
-        run(&rt, part(text, b'\n', i))?;
+    for line in lines(read_input(&rt, &mut room)?) {
+        run(&rt, line)?;
     }
     Ok(())
 }

@@ -4,7 +4,8 @@
 ghost use Rattle.std.specs.Prelude.{◌≡◌, ◌+◌, ◌≤◌, length, drop};
 ghost use Rattle.text_lines.specs.Line.{line_of, line_start, line_part, LineThere, FirstLineEnds};
 
-// A part of a text: the offset of its first octet, and the number of its octets.
+// A part of a text: the offset of its first octet, and the number of its octets, which is how C receives a line. `line_of` returns the part
+// itself.
 #[derive(Clone, Copy)]
 pub struct LinePart {
     pub start: usize,
@@ -16,14 +17,12 @@ fn line_end(text: &[u8], at: usize) -> usize
     requires { at ≤ length text.now }
     ensures { FirstLineEnds text.now at result }
 {
-    let mut end = at;
-    while end < text.len() {
+    for end in at..text.len() {
         if text[end] == b'\n' {
             return end + 1;
         }
-        end += 1;
     }
-    end
+    text.len()
 }
 
 // The offset of line n, counted from 0; the end of the text if there is none.
@@ -32,13 +31,11 @@ fn line_start(text: &[u8], n: usize) -> usize
         × (line_start n text.now ≡ result) }
 {
     let mut at = 0;
-    let mut left = n;
-    while 0 < left {
+    for _ in 0..n {
         if text.len() <= at {
             return at;
         }
         at = line_end(text, at);
-        left -= 1;
     }
     at
 }
@@ -63,7 +60,5 @@ pub fn line_of(text: &[u8], n: usize) -> &[u8]
         × (result.ref_ptr ≡ (text.entry.ref_ptr.0, line_start n text.now + text.entry.ref_ptr.1)) }
 {
     let part = line_part(text, n);
-    let start = part.start;
-    let end = start + part.length;
-    &text[start..end]
+    &text[part.start..part.start + part.length]
 }

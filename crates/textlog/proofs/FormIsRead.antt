@@ -12,16 +12,15 @@ use Rattle.octets.specs.Text.{line_feed}
 use Rattle.decimal.specs.Decimal.{decimal_value}
 use Rattle.rfc4737.proofs.Due.{not-outside}
 use Rattle.textlog.specs.Form.{semicolon, number_most, time_most, Digits, thousandths, Time, whole, parted, Line, line}
-use Rattle.textlog.specs.Decode.{in_range, fraction_in, time_in, line_in}
-use Rattle.textlog.specs.declared.reading.Reading.TheVariants.{Read}
+use Rattle.textlog.specs.Decode.{read, in_range, fraction_in, time_in, line_in}
 use Rattle.textlog.proofs.LeadingDigits.{feed-no-digit, semicolon-no-digit, some-digits, begins-with, mark-passes}
 
-range-complete : (n τ e : ℕ) → τ ≤ time_most → in_range n τ e ≡ Read n τ e
+range-complete : (n τ e : ℕ) → τ ≤ time_most → in_range n τ e ≡ read n τ e
 unfolding in_range
 range-complete n τ e h = rw (le-leb τ time_most h)
 
 fraction-complete : (n w at : ℕ) {ds : List ℕ} (u : List ℕ) → Digits ds → length ds ≤ 3 → 1000 * w + thousandths ds ≤ time_most
-    → fraction_in n w at (ds ++ (line_feed ∷ u)) ≡ Read n (1000 * w + thousandths ds) (at + length ds + 1)
+    → fraction_in n w at (ds ++ (line_feed ∷ u)) ≡ read n (1000 * w + thousandths ds) (at + length ds + 1)
 unfolding fraction_in
 fraction-complete n w at {ds} u d few fits =
     let m = begins-with d line_feed u feed-no-digit in
@@ -29,7 +28,7 @@ fraction-complete n w at {ds} u d few fits =
     rw (m.digits, m.octet, m.count, not-outside 1 3 (length ds) (omega arith) few) (range-complete n _ _ fits)
 
 time-complete : (n at : ℕ) {ts : List ℕ} {τ : ℕ} (u : List ℕ) → Time ts τ → τ ≤ time_most
-    → time_in n at (ts ++ (line_feed ∷ u)) ≡ Read n τ (at + length ts + 1)
+    → time_in n at (ts ++ (line_feed ∷ u)) ≡ read n τ (at + length ts + 1)
 unfolding time_in
 time-complete n at u (whole {ms} d) fits =
     let m = begins-with d line_feed u feed-no-digit in
@@ -54,7 +53,7 @@ time-complete n at u (parted {ms} {ds} {o} d k f few) fits =
     (fraction-complete n (decimal_value ms) (at + length ms + 1) u f few fits)
 
 pub complete : (at : ℕ) {text : List ℕ} {n τ : ℕ} (u : List ℕ) → Line text n τ → n ≤ number_most → τ ≤ time_most
-    → line_in at (text ++ u) ≡ Read n τ (at + length text)
+    → line_in at (text ++ u) ≡ read n τ (at + length text)
 unfolding line_in
 complete at u (line {ns} {ts} {time} d t) h k =
     let m = begins-with d semicolon (ts ++ (line_feed ∷ u)) semicolon-no-digit in

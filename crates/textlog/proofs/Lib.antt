@@ -5,6 +5,7 @@ mod FormIsRead
 pub mod Lines
 mod LinesAtPlaces
 pub mod Judging
+pub mod Turns
 pub mod PartFilled
 pub mod Filling
 pub mod Accepted

@@ -17,11 +17,11 @@ use lib.Seq.{append_snoc, drop_at, drop-drop, drop-cons}
 use Rattle.octets.specs.Text.{line_feed, lines}
 use Rattle.octets.proofs.Text.{Plain, none, some, plain-append, plain-line, first-line}
 use Rattle.rfc4737.specs.declared.Arrival.{Arrival}
+use Rattle.std.specs.Prelude.{Option, None, Some}
 use Rattle.textlog.specs.Form.{semicolon, number_most, Digits, one, more, by_comma, by_point, Time, whole, parted, Line, line, LineFits}
-use Rattle.textlog.specs.Decode.{line_in, DecodedLine, malformed, arrived, read_whole, decode_line, decoded_lines}
+use Rattle.textlog.specs.Decode.{read, line_in, DecodedLine, malformed, arrived, read_whole, decode_line, decoded_lines}
 use Rattle.textlog.specs.RoundTrip.{ExactLine}
-use Rattle.textlog.specs.declared.reading.Reading.{Reading}
-use Rattle.textlog.specs.declared.reading.Reading.TheVariants.{Read, Malformed}
+use Rattle.textlog.specs.declared.reading.ReadLine.{ReadLine}
 use Rattle.textlog.proofs.ReadHasForm.{sound}
 use Rattle.textlog.proofs.FormIsRead.{complete}
 
@@ -48,23 +48,23 @@ line_first (line {ns} {ts} d t) u =
 -- ---- a line decodes exactly if it has the form, and its values fit
 
 -- a line read to its end
-read_whole-arrived : (n : ℕ) (r : Reading) {a : Arrival} → read_whole n r ≡ arrived a → r ≡ Read a.number a.time n
-read_whole-arrived n Malformed h = absurd (let z : ◌≡◌ {A = ℕ} 0 1 = cc in omega arith)
-read_whole-arrived n (Read m τ e) {a} h = go (eqb e n) refl h
+read_whole-arrived : (n : ℕ) (r : Option ReadLine) {a : Arrival} → read_whole n r ≡ arrived a → r ≡ read a.number a.time n
+read_whole-arrived n None h = cc
+read_whole-arrived n (Some l) {a} h = go (eqb l.end n) refl h
   where
-    go : (b : Bool) → eqb e n ≡ b → cond b (arrived (record { number = m; time = τ })) malformed ≡ arrived a
-        → Read m τ e ≡ Read a.number a.time n
+    go : (b : Bool) → eqb l.end n ≡ b → cond b (arrived (record { number = l.number; time = l.time })) malformed ≡ arrived a
+        → read l.number l.time l.end ≡ read a.number a.time n
     go true q h =
-        let s : record { number = m; time = τ } ≡ a = cc in
-        let p : e ≡ n = eqb-true e n q in
+        let s : record { number = l.number; time = l.time } ≡ a = cc in
+        let p : l.end ≡ n = eqb-true l.end n q in
         rw (p, ← s)
-    go false q h = absurd (let z : ◌≡◌ {A = ℕ} 0 1 = cc in omega arith)
+    go false q h = cc
 
 -- what has the form decodes
 pub decodes : (l : List ℕ) (a : Arrival) → LineFits l a → decode_line l ≡ arrived a
 unfolding decode_line
 decodes l a f =
-    let e : line_in 0 l ≡ Read a.number a.time (0 + length l) =
+    let e : line_in 0 l ≡ read a.number a.time (0 + length l) =
     ap (line_in 0) (sym (append-nil l)) ∙ complete 0 [] f.form f.number f.time in
     ap (read_whole (length l)) e ∙ (rw (eq-eqb (0 + length l) (length l) (zero-add (length l))))
 
@@ -98,7 +98,7 @@ pub record FirstLine (log : List ℕ) (at n τ end : ℕ) : Type 0 where
   pub onward : at < end
   pub number : n ≤ number_most
 
-pub line_read : (log : List ℕ) (at : ℕ) {n τ end : ℕ} → line_in at (drop at log) ≡ Read n τ end → FirstLine log at n τ end
+pub line_read : (log : List ℕ) (at : ℕ) {n τ end : ℕ} → line_in at (drop at log) ≡ read n τ end → FirstLine log at n τ end
 line_read log at {n} {τ} {end} h =
     let s = sound at (drop at log) h in
     let d : drop end log ≡ s.rest =
@@ -123,7 +123,7 @@ pub record MalformedLine (log : List ℕ) (at : ℕ) : Type 0 where
   pub others : List DecodedLine
   pub lead : decoded_lines (drop at log) ≡ malformed ∷ others
 
-pub line-unread : (log : List ℕ) (at : ℕ) → at < length log → line_in at (drop at log) ≡ Malformed → MalformedLine log at
+pub line-unread : (log : List ℕ) (at : ℕ) → at < length log → line_in at (drop at log) ≡ None → MalformedLine log at
 line-unread log at h e =
     let f = first-line (get_or log at 0) (drop (suc at) log) in
     let text : List ℕ = get_or log at 0 ∷ f.text in
@@ -135,6 +135,6 @@ line-unread log at h e =
     go text rest others w l malformed g = record { others = map decode_line others; lead = decoded-first (drop at log) l g }
     go text rest others w l (arrived a) g =
         let f = decoded text a g in
-        let r : line_in at (drop at log) ≡ Read a.number a.time (at + length text) =
+        let r : line_in at (drop at log) ≡ read a.number a.time (at + length text) =
         ap (line_in at) w ∙ complete at rest f.form f.number f.time in
         absurd (let z : ◌≡◌ {A = ℕ} 0 1 = cc in omega arith)

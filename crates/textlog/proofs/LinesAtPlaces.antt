@@ -19,11 +19,11 @@ use Rattle.decimal.specs.Reading.{digit_count, leading, leading_value, word_most
 use Rattle.decimal.specs.declared.reading.Number.{Number}
 use Rattle.rfc4737.specs.Refusals.{outside}
 use Rattle.rfc4737.proofs.Due.{not-outside}
+use Rattle.std.specs.Prelude.{Option, None}
 use Rattle.textlog.specs.Form.{semicolon, number_most, time_most, Digits, one, more}
 use Rattle.textlog.specs.Decode.{is_decimal_mark, octet_after, text_after, in_range, fraction_in, time_in, line_in}
-use Rattle.textlog.specs.declared.reading.Reading.{Reading}
-use Rattle.textlog.specs.declared.reading.Reading.TheVariants.{Malformed}
-use Rattle.textlog.proofs.LeadingDigits.{some-digits, present, digits-lead, begins}
+use Rattle.textlog.specs.declared.reading.ReadLine.{ReadLine}
+use Rattle.textlog.proofs.LeadingDigits.{some-digits, digits-lead, begins}
 
 -- ---- numbers
 
@@ -88,14 +88,10 @@ module _ (log : List ℕ) (at : ℕ) (digits : Number) (e : digits ≡ number_at
   pub onward : at ≤ digits.end
   onward = omega (arith, ends)
 
-  -- an octet other than 0 stands within the log
-  pub within-log : (o : ℕ) → get_or log digits.end 0 ≡ o → 0 < o → digits.end < length log
-  within-log o h p = present log digits.end (rw h p)
-
   -- ---- the number
 
   -- there is no digit
-  pub line-none : digits.end ≡ at → Malformed ≡ line_in at (drop at log)
+  pub line-none : digits.end ≡ at → None ≡ line_in at (drop at log)
   unfolding line_in
   line-none h = rw (eq-eqb (digit_count (drop at log)) 0 (omega (arith, ends)))
 
@@ -104,7 +100,7 @@ module _ (log : List ℕ) (at : ℕ) (digits : Number) (e : digits ≡ number_at
     some z = s (omega (arith, ends))
 
     -- the number is over its range
-    pub line-over : number_most < digits.value → Malformed ≡ line_in at (drop at log)
+    pub line-over : number_most < digits.value → None ≡ line_in at (drop at log)
     unfolding line_in
     line-over h =
         rw (ne_eqb (digit_count (drop at log)) 0 some, lt-ltb number_most (leading_value (drop at log)) (omega (arith, value)))
@@ -114,7 +110,7 @@ module _ (log : List ℕ) (at : ℕ) (digits : Number) (e : digits ≡ number_at
       under = omega (arith, value)
 
       -- no semicolon follows
-      pub line_other : (get_or log digits.end 0 ≡ semicolon → ⊥) → Malformed ≡ line_in at (drop at log)
+      pub line_other : (get_or log digits.end 0 ≡ semicolon → ⊥) → None ≡ line_in at (drop at log)
       unfolding line_in
       line_other o =
           rw (
@@ -125,7 +121,7 @@ module _ (log : List ℕ) (at : ℕ) (digits : Number) (e : digits ≡ number_at
           )
 
       -- the time decides
-      pub line-time : get_or log digits.end 0 ≡ semicolon → {r : Reading}
+      pub line-time : get_or log digits.end 0 ≡ semicolon → {r : Option ReadLine}
           → r ≡ time_in digits.value (digits.end + 1) (drop (digits.end + 1) log) → r ≡ line_in at (drop at log)
       unfolding line_in
       line-time o q =
@@ -144,13 +140,13 @@ module _ (log : List ℕ) (at : ℕ) (digits : Number) (e : digits ≡ number_at
 
   module _ (number : ℕ) where
     -- there is no digit
-    pub time-none : digits.end ≡ at → Malformed ≡ time_in number at (drop at log)
+    pub time-none : digits.end ≡ at → None ≡ time_in number at (drop at log)
     unfolding time_in
     time-none h = rw (eq-eqb (digit_count (drop at log)) 0 (omega (arith, ends)))
 
     module _ (s : digits.end ≡ at → ⊥) where
       -- a line feed follows
-      pub time-ends : get_or log digits.end 0 ≡ line_feed → {r : Reading}
+      pub time-ends : get_or log digits.end 0 ≡ line_feed → {r : Option ReadLine}
           → r ≡ in_range number (1000 * digits.value + 0) (digits.end + 1) → r ≡ time_in number at (drop at log)
       unfolding time_in
       time-ends o q =
@@ -163,13 +159,13 @@ module _ (log : List ℕ) (at : ℕ) (digits : Number) (e : digits ≡ number_at
 
       module _ (o : get_or log digits.end 0 ≡ line_feed → ⊥) where
         -- nor does a mark
-        pub time-other : is_decimal_mark (get_or log digits.end 0) ≡ false → Malformed ≡ time_in number at (drop at log)
+        pub time-other : is_decimal_mark (get_or log digits.end 0) ≡ false → None ≡ time_in number at (drop at log)
         unfolding time_in
         time-other m =
             rw (ne_eqb (digit_count (drop at log)) 0 (some s), here, ne_eqb (get_or log digits.end 0) line_feed o, m)
 
         -- a mark does: the decimals decide
-        pub time-parted : is_decimal_mark (get_or log digits.end 0) ≡ true → {r : Reading}
+        pub time-parted : is_decimal_mark (get_or log digits.end 0) ≡ true → {r : Option ReadLine}
             → r ≡ fraction_in number digits.value (digits.end + 1) (drop (digits.end + 1) log) → r ≡ time_in number at (drop at log)
         unfolding time_in
         time-parted m q =
@@ -182,14 +178,14 @@ module _ (log : List ℕ) (at : ℕ) (digits : Number) (e : digits ≡ number_at
 
     module _ (whole : ℕ) where
       -- there is none
-      pub fraction-none : digits.end - at ≡ 0 → Malformed ≡ fraction_in number whole at (drop at log)
+      pub fraction-none : digits.end - at ≡ 0 → None ≡ fraction_in number whole at (drop at log)
       unfolding fraction_in outside
       fraction-none h =
           let z : digit_count (drop at log) ≡ 0 = omega (arith, ends) in
           rw z
 
       -- there are over three
-      pub fraction-many : 3 < digits.end - at → Malformed ≡ fraction_in number whole at (drop at log)
+      pub fraction-many : 3 < digits.end - at → None ≡ fraction_in number whole at (drop at log)
       unfolding fraction_in
       fraction-many h = rw (outside-over (digit_count (drop at log)) (omega (arith, ends)))
 
@@ -201,7 +197,7 @@ module _ (log : List ℕ) (at : ℕ) (digits : Number) (e : digits ≡ number_at
         few = not-outside 1 3 (digit_count (drop at log)) there (omega (arith, ends))
 
         -- no line feed follows
-        pub fraction-other : (get_or log digits.end 0 ≡ line_feed → ⊥) → Malformed ≡ fraction_in number whole at (drop at log)
+        pub fraction-other : (get_or log digits.end 0 ≡ line_feed → ⊥) → None ≡ fraction_in number whole at (drop at log)
         unfolding fraction_in
         fraction-other o = rw (few, here, ne_eqb (get_or log digits.end 0) line_feed o)
 
@@ -217,7 +213,7 @@ module _ (log : List ℕ) (at : ℕ) (digits : Number) (e : digits ≡ number_at
               (omega (arith, value), omega (arith, value))
 
           -- one does: the line is read
-          pub fraction-ends : {r : Reading} (f : ℕ) → f ≡ digits.value * 10 ^ (3 - (digits.end - at))
+          pub fraction-ends : {r : Option ReadLine} (f : ℕ) → f ≡ digits.value * 10 ^ (3 - (digits.end - at))
               → r ≡ in_range number (1000 * whole + f) (digits.end + 1) → r ≡ fraction_in number whole at (drop at log)
           unfolding fraction_in
           fraction-ends f w q =

@@ -1,5 +1,5 @@
 -- Two lists that are filled with the values of arrivals, one arrival after the other: after i of them they hold the values of the first i,
--- then what they held (`PartFilled`). They keep their length (`part-numbers`, `part-times`); an arrival that is the next of those left is
+-- then what they held (`PartFilled`). An arrival that is the next of those left is
 -- stored at i (`part-next`, by `rest-begins`: of a list whose rest from i on is x ∷ xs, x is element i); after all they are filled
 -- (`part-done`).
 -- Here l are the arrivals, a is one, value its number or its time; numbers₀ and times₀ are the lists before, with ' after the next.
@@ -12,7 +12,7 @@ use mathlib.Core.List.{List, [], ◌∷◌, ◌++◌, map}
 use lib.ListN.{length, get_or, take, drop, length-drop, length-map}
 use lib.Seq.{get_or-drop, drop-drop}
 use Rattle.octets.specs.Memory.{over}
-use Rattle.octets.proofs.Memory.{fill-length, fill_done}
+use Rattle.octets.proofs.Memory.{fill_done}
 use Rattle.rfc4737.specs.declared.Arrival.{Arrival}
 use Rattle.rfc4737.specs.Judge.{numbers_of, times_of}
 
@@ -45,20 +45,6 @@ part_none l numbers₀ times₀ = record { some = omega arith; in_numbers = refl
 
 module _ (l : List Arrival) (numbers₀ times₀ : List ℕ) (i : ℕ) (numbers times : List ℕ)
     (f : PartFilled l numbers₀ times₀ i numbers times) where
-  -- a list keeps its length
-  kept : (value : Arrival → ℕ) (old : List ℕ) {new : List ℕ} → new ≡ take i (map value l) ++ drop i old → length l ≤ length old
-      → length new ≡ length old
-  kept value old e r =
-      let p : length (map value l) ≡ length l = length-map l value in
-      let s = f.some in
-      ap length e ∙ fill-length (map value l) old i (omega arith) (omega arith)
-
-  pub part-numbers : length l ≤ length numbers₀ → length numbers ≡ length numbers₀
-  part-numbers r = kept (λ (a : Arrival). a.number) numbers₀ f.in_numbers r
-
-  pub part-times : length l ≤ length times₀ → length times ≡ length times₀
-  part-times r = kept (λ (a : Arrival). a.time) times₀ f.in_times r
-
   -- no arrival is left
   pub part-done : drop i l ≡ [] → (numbers ≡ over (numbers_of l) numbers₀) × (times ≡ over (times_of l) times₀)
   part-done z =

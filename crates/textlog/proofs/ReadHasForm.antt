@@ -17,23 +17,23 @@ use Rattle.octets.specs.Text.{line_feed}
 use Rattle.decimal.specs.Reading.{digit_count, leading, leading_value}
 use Rattle.rfc4737.specs.Refusals.{outside}
 use Rattle.rfc4737.proofs.Due.{between}
+use Rattle.std.specs.Prelude.{Option, None}
 use Rattle.textlog.specs.Form.{semicolon, number_most, time_most, Digits, DecimalMark, thousandths, Time, whole, parted, Line, line}
-use Rattle.textlog.specs.Decode.{is_decimal_mark, octet_after, text_after, in_range, fraction_in, time_in, line_in}
-use Rattle.textlog.specs.declared.reading.Reading.{Reading}
-use Rattle.textlog.specs.declared.reading.Reading.TheVariants.{Read, Malformed}
+use Rattle.textlog.specs.Decode.{read, is_decimal_mark, octet_after, text_after, in_range, fraction_in, time_in, line_in}
+use Rattle.textlog.specs.declared.reading.ReadLine.{ReadLine}
 use Rattle.textlog.proofs.LeadingDigits.{digits-lead, begins, is-mark, mark-passes}
 
 -- ---- tests passed on the way to a line
 
 -- one that must not hold
-kept : (b : Bool) {r : Reading} {n τ e : ℕ} → cond b Malformed r ≡ Read n τ e → (b ≡ false) × (r ≡ Read n τ e)
-kept true h = absurd (let z : ◌≡◌ {A = ℕ} 0 1 = cc in omega arith)
+kept : (b : Bool) {r : Option ReadLine} {n τ e : ℕ} → cond b None r ≡ read n τ e → (b ≡ false) × (r ≡ read n τ e)
+kept true h = cc
 kept false h = (refl, h)
 
 -- one that must hold
-passed : (b : Bool) {r : Reading} {n τ e : ℕ} → cond b r Malformed ≡ Read n τ e → (b ≡ true) × (r ≡ Read n τ e)
+passed : (b : Bool) {r : Option ReadLine} {n τ e : ℕ} → cond b r None ≡ read n τ e → (b ≡ true) × (r ≡ read n τ e)
 passed true h = (refl, h)
-passed false h = absurd (let z : ◌≡◌ {A = ℕ} 0 1 = cc in omega arith)
+passed false h = cc
 
 -- a time in range, and the rest of the line
 record InRangeLine (n τ e n₂ τ₂ e₂ : ℕ) : Type 0 where
@@ -42,13 +42,19 @@ record InRangeLine (n τ e n₂ τ₂ e₂ : ℕ) : Type 0 where
   pub end : e ≡ e₂
   pub fits : τ₂ ≤ time_most
 
-range-sound : (n τ e : ℕ) {n₂ τ₂ e₂ : ℕ} → in_range n τ e ≡ Read n₂ τ₂ e₂ → InRangeLine n τ e n₂ τ₂ e₂
+range-sound : (n τ e : ℕ) {n₂ τ₂ e₂ : ℕ} → in_range n τ e ≡ read n₂ τ₂ e₂ → InRangeLine n τ e n₂ τ₂ e₂
 unfolding in_range
 range-sound n τ e {n₂} {τ₂} {e₂} h =
     let p = passed (leb τ time_most) h in
-    let q : Read n τ e ≡ Read n₂ τ₂ e₂ = p.1 in
-    let s : τ ≡ τ₂ = cc in
-    record { number = (cc); time = s; end = (cc); fits = omega (arith, leb-true τ time_most p.0) }
+    let q : read n τ e ≡ read n₂ τ₂ e₂ = p.1 in
+    let l : ◌≡◌ {A = ReadLine} (record { number = n; time = τ; end = e }) (record { number = n₂; time = τ₂; end = e₂ }) = cc in
+    let s = ap (λ (x : ReadLine). x.time) l in
+    record {
+      number = ap (λ (x : ReadLine). x.number) l;
+      time = s;
+      end = ap (λ (x : ReadLine). x.end) l;
+      fits = omega (arith, s, leb-true τ time_most p.0);
+    }
 
 -- ---- decimals, a time and a line at the start of a text
 
@@ -64,7 +70,7 @@ record FractionStands (number w at : ℕ) (t : List ℕ) (n τ end : ℕ) : Type
   pub ends : end ≡ at + length ds + 1
   pub fits : τ ≤ time_most
 
-fraction_sound : (number w at : ℕ) (t : List ℕ) {n τ e : ℕ} → fraction_in number w at t ≡ Read n τ e
+fraction_sound : (number w at : ℕ) (t : List ℕ) {n τ e : ℕ} → fraction_in number w at t ≡ read n τ e
     → FractionStands number w at t n τ e
 unfolding fraction_in
 fraction_sound number w at t h =
@@ -95,7 +101,7 @@ record TimeStands (number at : ℕ) (t : List ℕ) (n τ end : ℕ) : Type 0 whe
   pub ends : end ≡ at + length ts + 1
   pub fits : τ ≤ time_most
 
-time-sound : (number at : ℕ) (t : List ℕ) {n τ e : ℕ} → time_in number at t ≡ Read n τ e → TimeStands number at t n τ e
+time-sound : (number at : ℕ) (t : List ℕ) {n τ e : ℕ} → time_in number at t ≡ read n τ e → TimeStands number at t n τ e
 unfolding time_in
 time-sound number at t {n} {τ} {e} h =
     let p = kept (eqb (digit_count t) 0) h in
@@ -138,8 +144,8 @@ time-sound number at t {n} {τ} {e} h =
 
     go : Digits (leading t) → (b : Bool) → eqb (octet_after t) line_feed ≡ b
         → cond b (in_range number (1000 * leading_value t) (at + digit_count t + 1))
-        (cond (is_decimal_mark (octet_after t)) (fraction_in number (leading_value t) (at + digit_count t + 1) (text_after t)) Malformed)
-        ≡ Read n τ e
+        (cond (is_decimal_mark (octet_after t)) (fraction_in number (leading_value t) (at + digit_count t + 1) (text_after t)) None)
+        ≡ read n τ e
         → TimeStands number at t n τ e
     go d true o h = plain d (eqb-true _ _ o) (range-sound number _ _ h)
     go d false o h =
@@ -156,7 +162,7 @@ pub record LineStands (at : ℕ) (t : List ℕ) (n τ end : ℕ) : Type 0 where
   pub number : n ≤ number_most
   pub time : τ ≤ time_most
 
-pub sound : (at : ℕ) (t : List ℕ) {n τ e : ℕ} → line_in at t ≡ Read n τ e → LineStands at t n τ e
+pub sound : (at : ℕ) (t : List ℕ) {n τ e : ℕ} → line_in at t ≡ read n τ e → LineStands at t n τ e
 unfolding line_in
 sound at t {n} {τ} {e} h =
     let p = kept (eqb (digit_count t) 0) h in

@@ -1,16 +1,30 @@
 -- What the calls return, and what the caller's lists and octets hold after them. Assumes nothing.
-use Rattle.std.specs.Prelude.{ℕ, Bool, ◌||◌, List, [], ◌∷◌, ◌≡◌, ltb, length}
+use Rattle.std.specs.Prelude.{ℕ, Bool, ◌||◌, Result, Ok, Err, List, [], ◌∷◌, ◌≡◌, ltb, length}
 use Rattle.octets.specs.Memory.{over}
 use Rattle.rfc4737.specs.Judge.{numbers_of, times_of, arrivals_from, refusal_of_lists}
+use Rattle.std.specs.Option.{unwrap_or}
+use Rattle.rfc4737.specs.declared.refusal.Refusal.{Refusal}
+use Rattle.rfc4737.specs.Refused.{number_of}
 use Rattle.rfc4737.specs.Refusals.{refusal_if, first_refusal, output_short, line_malformed}
 use Rattle.sample.specs.Output.{if_none, Output}
 use Rattle.sample.specs.declared.WriteAnswer.{WriteAnswer}
 use Rattle.textlog.specs.Form.{log_of}
-use Rattle.textlog.specs.Decode.{DecodedLine, malformed, arrived, decoded_lines, arrivals_of_lines, judge_decoded}
+use Rattle.textlog.specs.Decode.{LogJudgement, DecodedLine, malformed, arrived, decoded_lines, arrivals_of_lines, judge_decoded}
 use Rattle.textlog.specs.declared.LogImport.{LogImport}
+use Rattle.textlog.specs.declared.LogRefusal.{LogRefusal}
 use Rattle.textlog.specs.declared.LogLine.{LogLine}
 
 -- ---- the importer
+
+-- the judgement in a result: the number of arrivals, or the refusal and the refused line, 0 if no line is to blame
+abbrev pub judgement_in : Result ℕ LogRefusal → LogJudgement
+judgement_in (Ok arrivals) = record { refusal = 0; arrivals = arrivals; line = 0 }
+judgement_in (Err refused) = record { refusal = number_of refused.refusal; arrivals = 0; line = unwrap_or refused.line 0 }
+
+-- the answer in a result: the number of arrivals, or the refusal
+abbrev pub import_in : Result ℕ Refusal → LogImport
+import_in (Ok arrivals) = record { refusal = 0; arrivals = arrivals }
+import_in (Err refusal) = record { refusal = number_of refusal; arrivals = 0 }
 
 -- whether one of two lists, of the lengths `numbers` and `times`, is too short for `arrivals`
 unfoldable pub log_lists_short : (arrivals numbers times : ℕ) → Bool

@@ -1,6 +1,6 @@
 -- What a text log decodes to, line by line, and what is refused. The stages of a line need not be read: `ExactLine` (RoundTrip.antt) says
 -- that a line decodes exactly if it has the form, and to the form's arrival. Assumes nothing.
-use Rattle.std.specs.Prelude.{ℕ, zero, suc, ◌+◌, ◌*◌, Bool, cond, ◌||◌, List, [], ◌∷◌, map, ltb, leb, eqb, length, get_or, drop}
+use Rattle.std.specs.Prelude.{ℕ, zero, suc, ◌+◌, ◌*◌, Bool, cond, ◌||◌, Option, None, Some, List, [], ◌∷◌, map, ltb, leb, eqb, length, get_or, drop}
 use Rattle.octets.specs.Text.{line_feed, lines}
 use Rattle.decimal.specs.Reading.{digit_count, leading, leading_value}
 use Rattle.rfc4737.specs.declared.Arrival.{Arrival}
@@ -8,9 +8,7 @@ use Rattle.rfc4737.specs.Judge.{arrivals_most, judge_one, judge_sent}
 use Rattle.rfc4737.specs.Times.{next_reference}
 use Rattle.rfc4737.specs.Refusals.{outside, refusal_if, first_refusal, many_arrivals, line_malformed}
 use Rattle.textlog.specs.Form.{semicolon, comma, point, thousandths, number_most, time_most}
-use Rattle.textlog.specs.declared.LogJudgement.{LogJudgement}
-use Rattle.textlog.specs.declared.reading.Reading.{Reading}
-use Rattle.textlog.specs.declared.reading.Reading.TheVariants.{Read, Malformed}
+use Rattle.textlog.specs.declared.reading.ReadLine.{ReadLine}
 
 -- ---- reading a line in stages: t is the text that is left, which begins at offset `at` of the log
 
@@ -26,32 +24,36 @@ octet_after t = get_or t (digit_count t) 0
 abbrev pub text_after : List ℕ → List ℕ
 text_after t = drop (digit_count t + 1) t
 
+-- a line that was read: its number, its time and the offset after it; a malformed line is `None`
+abbrev pub read : (number time end : ℕ) → Option ReadLine
+read number time end = Some (record { number = number; time = time; end = end })
+
 -- a line that ends before offset `end`: malformed if its time is over the field's range
-unfoldable pub in_range : (number time end : ℕ) → Reading
-in_range number time end = cond (leb time time_most) (Read number time end) Malformed
+unfoldable pub in_range : (number time end : ℕ) → Option ReadLine
+in_range number time end = cond (leb time time_most) (read number time end) None
 
 -- the rest of a line whose decimals begin at `at`
-unfoldable pub fraction_in : (number whole at : ℕ) (t : List ℕ) → Reading
+unfoldable pub fraction_in : (number whole at : ℕ) (t : List ℕ) → Option ReadLine
 fraction_in number whole at t =
-    cond (outside 1 3 (digit_count t)) Malformed
+    cond (outside 1 3 (digit_count t)) None
     (cond (eqb (octet_after t) line_feed) (in_range number (1000 * whole + thousandths (leading t)) (at + digit_count t + 1))
-    Malformed)
+    None)
 
 -- the rest of a line whose time begins at `at`
-unfoldable pub time_in : (number at : ℕ) (t : List ℕ) → Reading
+unfoldable pub time_in : (number at : ℕ) (t : List ℕ) → Option ReadLine
 time_in number at t =
-    cond (eqb (digit_count t) 0) Malformed
+    cond (eqb (digit_count t) 0) None
     (cond (eqb (octet_after t) line_feed) (in_range number (1000 * leading_value t) (at + digit_count t + 1))
     (cond (is_decimal_mark (octet_after t)) (fraction_in number (leading_value t) (at + digit_count t + 1) (text_after t))
-    Malformed))
+    None))
 
 -- the line that begins at `at`: its number, its time, and the offset after it
-unfoldable pub line_in : (at : ℕ) (t : List ℕ) → Reading
+unfoldable pub line_in : (at : ℕ) (t : List ℕ) → Option ReadLine
 line_in at t =
-    cond (eqb (digit_count t) 0) Malformed
-    (cond (ltb number_most (leading_value t)) Malformed
+    cond (eqb (digit_count t) 0) None
+    (cond (ltb number_most (leading_value t)) None
     (cond (eqb (octet_after t) semicolon) (time_in (leading_value t) (at + digit_count t + 1) (text_after t))
-    Malformed))
+    None))
 
 -- what a line decodes to: an arrival, or nothing if it is malformed
 pub data DecodedLine : Type 0 where
@@ -59,9 +61,9 @@ pub data DecodedLine : Type 0 where
   arrived : Arrival → DecodedLine
 
 -- the arrival that was read, if the line of `octets` octets ends with it
-abbrev pub read_whole : (octets : ℕ) → Reading → DecodedLine
-read_whole octets (Read number time end) = cond (eqb end octets) (arrived (record { number = number; time = time })) malformed
-read_whole octets Malformed = malformed
+abbrev pub read_whole : (octets : ℕ) → Option ReadLine → DecodedLine
+read_whole octets (Some l) = cond (eqb l.end octets) (arrived (record { number = l.number; time = l.time })) malformed
+read_whole octets None = malformed
 
 -- what a line by itself decodes to
 unfoldable pub decode_line : List ℕ → DecodedLine
@@ -93,6 +95,13 @@ abbrev pub judge_line : (k count reference : ℕ) → DecodedLine → ℕ
 judge_line k count reference malformed = line_malformed
 judge_line k count reference (arrived a) =
     first_refusal (refusal_if (leb arrivals_most count) many_arrivals ∷ judge_one k reference a ∷ [])
+
+-- the judgement of a log: the refusal (0 for none), the number of arrivals (0 with a refusal), and the refused line. Lines are numbered
+-- from 1; 0 is no line
+pub record LogJudgement : Type 0 where
+  pub refusal : ℕ
+  pub arrivals : ℕ
+  pub line : ℕ
 
 -- the judgement `next`, unless a refusal comes before it; `line` is 0 if no line is to blame
 abbrev pub unless : (refusal line : ℕ) → (next : LogJudgement) → LogJudgement

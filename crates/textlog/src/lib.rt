@@ -1,27 +1,30 @@
 // Text logs from suppliers: importing them into the caller's lists, reading one line, and writing. Every public call is total.
 #![tactic(auto)]
 
-ghost use Rattle.std.specs.Prelude.{◌≡◌};
+ghost use Rattle.std.specs.Prelude.{◌≡◌, ◌+◌, ◌≤◌, max, length, IfSome};
 ghost use Rattle.octets.specs.Memory.{over};
-ghost use Rattle.rfc4737.specs.Judge.{numbers_of, times_of};
-ghost use Rattle.rfc4737.specs.Refusals.{line_malformed};
-ghost use Rattle.textlog.specs.Decode.{decode_line, decoded_lines, judge_lines, judge_log, log_arrivals};
-ghost use Rattle.textlog.specs.Calls.{log_lists_short, LogImportedFrom, LogWrittenTo, log_line};
+ghost use Rattle.rfc4737.specs.Judge.{sent_most, arrivals_most, numbers_of, times_of};
+ghost use Rattle.sample.specs.Output.{answer_in};
+ghost use Rattle.textlog.specs.Decode.{read_whole, decode_line, decoded_lines, judge_lines, judge_decoded, judge_log};
+ghost use Rattle.textlog.specs.Numbers.{lines_by, arrivals_by};
+ghost use Rattle.textlog.specs.Calls.{log_lists_short, judgement_in, import_in, LinesImported, LogImportedFrom, LogWrittenTo, log_line};
 ghost use Rattle.textlog.specs.RoundTrip.{ExactLine, ExactLog, ImportedIsFit, LogReadAgain};
 ghost use Rattle.textlog.specs.Cases.{LinesReadAsGiven, LinesWrittenAsGiven};
 ghost use Rattle.textlog.specs.Private.{Fillable};
 
+pub mod numbers;
 pub mod reading;
 mod writing;
 
-use reading::{Reading, line_at};
-use rfc4737::judge::{ARRIVALS_MOST, SENT_MOST, judge_one, outside, refusal_of_lists};
-use rfc4737::refusal::{LINE_MALFORMED, MANY_ARRIVALS, OUTPUT_SHORT, SENT_OUTSIDE};
-use rfc4737::time::next_reference;
+use numbers::{Full, Numbers};
+use reading::{ReadLine, line_at};
+use rfc4737::judge::{ARRIVALS_MOST, SENT_MOST, check_lists, judge_next, outside};
+use rfc4737::refusal::{NONE, Refusal};
 use sample::WriteAnswer;
 use writing::{log_length, put_lines};
 
-// The result of an import: the refusal (0 for none), and the number of arrivals, 0 with a refusal.
+// The result of an import: the refusal (0 for none), and the number of arrivals, 0 with a refusal. The refusal is a number, as
+// `LogImportedFrom` and C have it.
 #[derive(Clone, Copy)]
 #[repr(C)]
 pub struct LogImport {
@@ -30,7 +33,7 @@ pub struct LogImport {
 }
 
 // The result of reading a line: the refusal (0, or 14 for a malformed line), the sequence number and the time in microseconds. With a
-// refusal both are 0.
+// refusal both are 0. The refusal is a number, as `log_line` and C have it.
 #[derive(Clone, Copy)]
 pub struct LogLine {
     pub refusal: u32,
@@ -38,102 +41,156 @@ pub struct LogLine {
     pub time: u64,
 }
 
-// The judgement of a log: the refusal (0 for none), the number of arrivals (0 with a refusal), and the refused line. Lines are numbered
-// from 1; 0 is no line.
+// Why a log is refused: the refusal, and the refused line, counted from 1; `None` if no line is to blame.
 #[derive(Clone, Copy)]
-pub struct LogJudgement {
-    pub refusal: u32,
-    pub arrivals: u32,
-    pub line: u32,
+pub struct LogRefusal {
+    pub refusal: Refusal,
+    pub line: Option<u32>,
 }
 
-// The judgement of a refused log; `line` is 0 if no line is to blame.
-pub fn refused_at(refusal: u32, line: u32) -> LogJudgement
-    ensures { result ≡ record { refusal = refusal; arrivals = 0; line = line } }
-{
-    LogJudgement {
-        refusal,
-        arrivals: 0,
-        line,
+impl From<LogRefusal> for Refusal {
+    ghost from_gives = { λ log refusal. refusal ≡ log.refusal };
+
+    fn from(log: LogRefusal) -> Refusal {
+        log.refusal
     }
 }
 
-// Judges the lines of a log in turn.
-fn judge_lines(log: &[u8], k: u32) -> LogJudgement
-    ensures { result ≡ judge_lines k 0 0 (decoded_lines log.now) }
+impl From<Result<u32, Refusal>> for LogImport {
+    ghost from_gives = { λ imported answer. answer ≡ import_in imported };
+
+    // The result of an import of this many arrivals, or of a refused one.
+    fn from(imported: Result<u32, Refusal>) -> LogImport {
+        match imported {
+            Ok(arrivals) => LogImport {
+                refusal: NONE,
+                arrivals,
+            },
+            Err(refusal) => LogImport {
+                refusal: refusal.number(),
+                arrivals: 0,
+            },
+        }
+    }
+}
+
+// The refusal of the line after the first `count`.
+fn refused_after(count: u32, refusal: Refusal) -> LogRefusal
+    requires { count ≤ arrivals_most }
+    ensures { result ≡ record { refusal = refusal; line = Some (count + 1) } }
 {
+    LogRefusal {
+        refusal,
+        line: Some(count + 1),
+    }
+}
+
+// The greater of `greatest`, the greatest number so far, and `number`.
+fn next_greatest(greatest: u16, number: u32) -> u16
+    requires { number ≤ sent_most }
+    ensures { result ≡ max greatest number }
+{
+    greatest.max(number as u16)
+}
+
+// Judges the lines of a log in turn, each by its full number; returns the number of arrivals. A line ends where its reading says, so the
+// loop goes by the offset of the next line.
+fn judge_lines<N: Numbers>(log: &[u8], k: u32) -> Result<u32, LogRefusal>
+    requires { k ≤ sent_most }
+    ensures { judgement_in result ≡ judge_lines k 0 0 (lines_by N.full 0 (decoded_lines log.now)) }
+{
+    let mut greatest: u16 = 0;
     let mut reference: u64 = 0;
     let mut at = 0;
     let mut count: u32 = 0;
     while at < log.len() {
-        let Reading::Read(number, time, end) = line_at(log, at) else {
-            return refused_at(LINE_MALFORMED, count + 1);
+        let Some(line) = line_at(log, at) else {
+            return Err(refused_after(count, Refusal::LineMalformed));
         };
         if ARRIVALS_MOST <= count as u64 {
-            return refused_at(MANY_ARRIVALS, count + 1);
+            return Err(refused_after(count, Refusal::ManyArrivals));
         }
-        let refusal = judge_one(k as u64, reference, number as u64, time);
-        if refusal != 0 {
-            return refused_at(refusal, count + 1);
-        }
-        reference = next_reference(reference, time);
-        at = end;
+        let number = N::full_number(greatest, line.number);
+        reference = match judge_next(k as u64, reference, number as u64, line.time) {
+            Ok(next) => next,
+            Err(refusal) => return Err(refused_after(count, refusal)),
+        };
+        greatest = next_greatest(greatest, number);
+        at = line.end;
         count += 1;
     }
-    LogJudgement {
-        refusal: 0,
-        arrivals: count,
-        line: 0,
-    }
+    Ok(count)
 }
 
-// Judges a whole log: K, then the lines.
-fn judge_log(log: &[u8], k: u32) -> LogJudgement
-    ensures { result ≡ judge_log k log.now }
+// Judges a whole log: K, then the lines; returns the number of arrivals.
+fn judge_log<N: Numbers>(log: &[u8], k: u32) -> Result<u32, LogRefusal>
+    ensures { judgement_in result ≡ judge_decoded k (lines_by N.full 0 (decoded_lines log.now)) }
 {
     if outside(1, SENT_MOST, k as u64) {
-        return refused_at(SENT_OUTSIDE, 0);
+        return Err(LogRefusal {
+            refusal: Refusal::SentOutside,
+            line: None,
+        });
     }
-    judge_lines(log, k)
+    judge_lines::<N>(log, k)
 }
 
-// Fills the lists with the numbers and times of a log that is not refused.
-fn fill_arrivals(log: &[u8], numbers: &mut [u32], times: &mut [u64])
-    requires { Fillable log.now numbers.old times.old }
-    ensures { (numbers.new ≡ over (numbers_of (log_arrivals log.now)) numbers.old)
-        × (times.new ≡ over (times_of (log_arrivals log.now)) times.old) }
+// Fills the lists with the full numbers and the times of the `arrivals` lines of a log that is not refused.
+fn fill_arrivals<N: Numbers>(log: &[u8], arrivals: usize, numbers: &mut [u32], times: &mut [u64])
+    requires { Fillable N.full log.now arrivals numbers.old times.old }
+    ensures { (numbers.new ≡ over (numbers_of (arrivals_by N.full log.now)) numbers.old)
+        × (times.new ≡ over (times_of (arrivals_by N.full log.now)) times.old) }
 {
+    let mut greatest: u16 = 0;
     let mut at = 0;
-    let mut i = 0;
-    while at < log.len() {
-        let Reading::Read(number, time, end) = line_at(log, at) else {
+    for i in 0..arrivals {
+        let Some(line) = line_at(log, at) else {
             return;
         };
-        numbers[i] = number;
-        times[i] = time;
-        at = end;
-        i += 1;
+        let full = N::full_number(greatest, line.number);
+        numbers[i] = full;
+        times[i] = line.time;
+        greatest = next_greatest(greatest, full);
+        at = line.end;
     }
 }
 
 // Whether one of two lists, of the lengths `numbers` and `times`, is too short for `arrivals`.
-pub fn too_short(arrivals: u32, numbers: usize, times: usize) -> bool
+fn too_short(arrivals: u32, numbers: usize, times: usize) -> bool
     ensures { result ≡ log_lists_short arrivals numbers times }
 {
-    if numbers < arrivals as usize {
-        return true;
-    }
-    times < arrivals as usize
+    numbers < arrivals as usize || times < arrivals as usize
 }
 
-// The result of a refused import.
-pub fn refused_import(refusal: u32) -> LogImport
-    ensures { result ≡ record { refusal = refusal; arrivals = 0 } }
+// Judges a log, then fills the lists with its arrivals; returns their number. With a refusal the lists stay as they were.
+fn import_lists<N: Numbers>(
+    log: &[u8],
+    k: u32,
+    numbers: &mut [u32],
+    times: &mut [u64],
+) -> Result<u32, Refusal>
+    ensures { LinesImported k (lines_by N.full 0 (decoded_lines log.now)) numbers.old times.old
+        (import_in result) numbers.new times.new }
 {
-    LogImport {
-        refusal,
-        arrivals: 0,
+    let arrivals = judge_log::<N>(log, k)?;
+    if too_short(arrivals, numbers.len(), times.len()) {
+        return Err(Refusal::OutputShort);
     }
+    fill_arrivals::<N>(log, arrivals as usize, numbers, times);
+    Ok(arrivals)
+}
+
+// Imports a log as `import` does, with the full numbers that `N` finds of its lines.
+pub fn import_by<N: Numbers>(
+    log: &[u8],
+    k: u32,
+    numbers: &mut [u32],
+    times: &mut [u64],
+) -> LogImport
+    ensures { LinesImported k (lines_by N.full 0 (decoded_lines log.now)) numbers.old times.old
+        result numbers.new times.new }
+{
+    LogImport::from(import_lists::<N>(log, k, numbers, times))
 }
 
 // Imports the log of K sent packets: fills the lists of numbers and times from their start. With a refusal they stay as
@@ -145,54 +202,68 @@ pub fn import(log: &[u8], k: u32, numbers: &mut [u32], times: &mut [u64]) -> Log
     ensures fit { ImportedIsFit k log.now }
     ensures cases { LinesReadAsGiven }
 {
-    let judgement = judge_log(log, k);
-    if judgement.refusal != 0 {
-        return refused_import(judgement.refusal);
-    }
-    if too_short(judgement.arrivals, numbers.len(), times.len()) {
-        return refused_import(OUTPUT_SHORT);
-    }
-    fill_arrivals(log, numbers, times);
-    LogImport {
-        refusal: 0,
-        arrivals: judgement.arrivals,
+    import_by::<Full>(log, k, numbers, times)
+}
+
+// The number of the first refused line, as `refused_line` says, with the full numbers that `N` finds of the lines.
+pub fn refused_line_by<N: Numbers>(log: &[u8], k: u32) -> u32
+    ensures { result ≡ (judge_decoded k (lines_by N.full 0 (decoded_lines log.now))).line }
+{
+    match judge_log::<N>(log, k) {
+        Ok(_) => 0,
+        Err(refused) => refused.line.unwrap_or(0),
     }
 }
 
-// The number of the first refused line of a log, from 1. It is 0 if no line is refused, also if K itself is. No list is filled, so refusal
-// 8 does not arise.
+// The number of the first refused line of a log, from 1. It is 0 if no line is refused, also if K itself is; C receives this number. No
+// list is filled, so refusal 8 does not arise.
 pub fn refused_line(log: &[u8], k: u32) -> u32
     ensures { result ≡ (judge_log k log.now).line }
 {
-    judge_log(log, k).line
+    refused_line_by::<Full>(log, k)
 }
 
-// The result for a malformed line.
-fn malformed_line() -> LogLine
-    ensures { result ≡ record { refusal = line_malformed; number = 0; time = 0 } }
+// Reads one line by itself: `None` if it is malformed or does not end the octets.
+fn whole_line(line: &[u8]) -> Option<ReadLine>
+    ensures read { read_whole (length line.now) result ≡ decode_line line.now }
+    ensures ends { IfSome result (λ read. read.end ≡ length line.now) }
 {
-    LogLine {
-        refusal: LINE_MALFORMED,
-        number: 0,
-        time: 0,
+    let read = line_at(line, 0)?;
+    if read.end != line.len() {
+        return None;
     }
+    Some(read)
 }
 
 // Reads one line by itself, with the line feed that ends it.
 pub fn read_line(line: &[u8]) -> LogLine
     ensures { result ≡ log_line (decode_line line.now) }
 {
-    let Reading::Read(number, time, end) = line_at(line, 0) else {
-        return malformed_line();
-    };
-    if end != line.len() {
-        return malformed_line();
+    match whole_line(line) {
+        Some(read) => LogLine {
+            refusal: NONE,
+            number: read.number,
+            time: read.time,
+        },
+        None => LogLine {
+            refusal: Refusal::LineMalformed.number(),
+            number: 0,
+            time: 0,
+        },
     }
-    LogLine {
-        refusal: 0,
-        number,
-        time,
+}
+
+// Writes the log of the arrivals of K sent packets from the start of `out`; returns its length. With a refusal `out` stays as it was.
+fn write_log(k: u32, numbers: &[u32], times: &[u64], out: &mut [u8]) -> Result<u32, Refusal>
+    ensures { LogWrittenTo k numbers.now times.now out.old (answer_in result) out.new }
+{
+    check_lists(k as u64, numbers, times)?;
+    let length = log_length(numbers, times);
+    if out.len() < length {
+        return Err(Refusal::OutputShort);
     }
+    put_lines(numbers, times, out);
+    Ok(length as u32)
 }
 
 // Writes the log of the arrivals of K sent packets from the start of `out`. With a refusal `out` stays as it was.
@@ -201,20 +272,5 @@ pub fn write(k: u32, numbers: &[u32], times: &[u64], out: &mut [u8]) -> WriteAns
     ensures again { LogReadAgain k numbers.now times.now }
     ensures cases { LinesWrittenAsGiven }
 {
-    let refusal = refusal_of_lists(k as u64, numbers, times);
-    if refusal != 0 {
-        return WriteAnswer { refusal, length: 0 };
-    }
-    let length = log_length(numbers, times);
-    if out.len() < length {
-        return WriteAnswer {
-            refusal: OUTPUT_SHORT,
-            length: 0,
-        };
-    }
-    put_lines(numbers, times, out);
-    WriteAnswer {
-        refusal: 0,
-        length: length as u32,
-    }
+    WriteAnswer::from(write_log(k, numbers, times, out))
 }

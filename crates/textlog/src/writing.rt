@@ -17,10 +17,8 @@ pub(crate) fn log_length(numbers: &[u32], times: &[u64]) -> usize
     ensures { (result ≡ length (log_of (arrivals_from numbers.now times.now))) × (result ≤ 188416) }
 {
     let mut total = 0;
-    let mut i = 0;
-    while i < numbers.len() {
-        total += line_length(numbers[i], times[i]);
-        i += 1;
+    for (number, time) in numbers.iter().zip(times) {
+        total += line_length(*number, *time);
     }
     total
 }
@@ -63,9 +61,7 @@ pub(crate) fn put_lines(numbers: &[u32], times: &[u64], out: &mut [u8])
     ensures { out.new ≡ over (log_of (arrivals_from numbers.now times.now)) out.old }
 {
     let mut at = 0;
-    let mut i = 0;
-    while i < numbers.len() {
-        at = put_line(out, at, numbers[i], times[i]);
-        i += 1;
+    for (number, time) in numbers.iter().zip(times) {
+        at = put_line(out, at, *number, *time);
     }
 }

@@ -4,6 +4,7 @@
 
 ghost use Rattle.std.specs.Prelude.{◌≡◌};
 ghost use Rattle.sample.specs.Decode.{decode};
+ghost use Rattle.worse.specs.declared.Link.{Link};
 ghost use Rattle.worse.specs.Worse.{reordered_ratio, greater, comparison_of, worse_label, worse_place};
 
 use metrics::counts;
@@ -11,18 +12,31 @@ use rfc4737::Counts;
 use sample::label;
 
 // One of two samples, or `Refused` if one of them is refused.
-#[derive(Clone, Copy)]
+#[derive(Clone, Copy, Debug, PartialEq, Eq)]
 pub enum Link {
     Refused,
     First,
     Second,
 }
 
-// The comparison of two samples: the refusal (0 for none), and the worse sample.
+// The comparison of two samples: the refusal (0 for none), and the worse sample. The refusal stands beside the link as a number, since
+// `comparison_of` of specs/Worse.antt gives both, for C too.
 #[derive(Clone, Copy)]
 pub struct Comparison {
     pub refusal: u32,
     pub link: Link,
+}
+
+impl Comparison {
+    // Returns the comparison of two samples of which one is refused.
+    fn refused(refusal: u32) -> Comparison
+        ensures { result ≡ record { refusal = refusal; link = Link.Refused } }
+    {
+        Comparison {
+            refusal,
+            link: Link::Refused,
+        }
+    }
 }
 
 // A ratio of whole numbers.
@@ -32,7 +46,8 @@ pub struct Fraction {
     pub whole: u32,
 }
 
-// Returns the reordered ratio of a sample from its counts; 0 over 1 if it is undefined.
+// Returns the reordered ratio of a sample from its counts; 0 over 1 if it is undefined. No Option: the definition `reordered_ratio` counts
+// an undefined ratio as 0.
 pub fn reordered_ratio(counts: Counts) -> Fraction
     ensures { result ≡ reordered_ratio counts }
 {
@@ -45,7 +60,8 @@ pub fn reordered_ratio(counts: Counts) -> Fraction
     }
 }
 
-// Returns whether f is greater than g. A product of two 32-bit numbers fits in 64 bits.
+// Returns whether f is greater than g. A product of two 32-bit numbers fits in 64 bits. No derive orders fractions: 1 over 2 and 2 over 4
+// are equal as ratios and differ as values.
 pub fn greater(f: Fraction, g: Fraction) -> bool
     ensures { result ≡ greater f g }
 {
@@ -54,29 +70,28 @@ pub fn greater(f: Fraction, g: Fraction) -> bool
     theirs < ours
 }
 
-// Returns the comparison with a refusal and a link.
-fn comparison_with(refusal: u32, link: Link) -> Comparison
-    ensures { result ≡ record { refusal = refusal; link = link } }
-{
-    Comparison { refusal, link }
-}
-
 // Finds which of two samples has the greater reordered ratio; the first if they are equal. Cost: one pass over each.
 pub fn compare(first: &[u8], second: &[u8]) -> Comparison
     ensures { result ≡ comparison_of (decode first.now) (decode second.now) }
 {
     let one = counts(first);
     if one.refusal != 0 {
-        return comparison_with(one.refusal, Link::Refused);
+        return Comparison::refused(one.refusal);
     }
     let other = counts(second);
     if other.refusal != 0 {
-        return comparison_with(other.refusal, Link::Refused);
+        return Comparison::refused(other.refusal);
     }
     if greater(reordered_ratio(other.counts), reordered_ratio(one.counts)) {
-        return comparison_with(0, Link::Second);
+        return Comparison {
+            refusal: 0,
+            link: Link::Second,
+        };
     }
-    comparison_with(0, Link::First)
+    Comparison {
+        refusal: 0,
+        link: Link::First,
+    }
 }
 
 // Returns the label of the worse of two samples, as a part of it. If a sample is refused, returns the empty part at the start of `first`.
@@ -84,8 +99,7 @@ pub fn worse<'a>(first: &'a [u8], second: &'a [u8]) -> &'a [u8]
     ensures { (result.now ≡ worse_label (decode first.now) (decode second.now))
         × (result.ref_ptr ≡ worse_place (decode first.now) (decode second.now) first.entry.ref_ptr second.entry.ref_ptr) }
 {
-    let link = compare(first, second).link;
-    match link {
+    match compare(first, second).link {
         Link::Refused => &first[0..0],
         Link::First => label(first),
         Link::Second => label(second),

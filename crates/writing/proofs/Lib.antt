@@ -1,4 +1,3 @@
 -- Laws of the definitions of specs/, for the proofs of the crates that write texts. Assumes nothing.
-pub mod Parts
 pub mod Put
-pub mod Numbers
+pub mod Added

@@ -8,9 +8,7 @@ use mathlib.Core.List.{List, [], ◌++◌}
 use lib.ListN.{length, take, length-append}
 use Rattle.octets.specs.Memory.{over, put, splice}
 use Rattle.octets.proofs.Memory.{splice-nil, splice-next, over-splice, put-room, put-length}
-use Rattle.writing.specs.Parts.{Written}
 use Rattle.writing.specs.Put.{Put}
-use Rattle.writing.proofs.Parts.{stands}
 
 -- nothing
 pub put-nothing : (at : ℕ) (old : List ℕ) → Put at at [] old old
@@ -20,6 +18,11 @@ put-nothing at old = record { place = omega arith; same = refl; memory = λ _. s
 pub put-octets : {at : ℕ} {xs old new : List ℕ} → new ≡ put at xs old → Put at (at + length xs) xs old new
 put-octets {at} {xs} {old} e =
     record { place = refl; same = ap length e ∙ put-length at xs old; memory = λ room. e ∙ put-room at xs old room }
+
+-- octets that are put at the start
+pub put_first : {xs old new : List ℕ} → new ≡ put 0 xs old → Put 0 (length xs) xs old new
+put_first {xs} {old} e =
+    record { place = omega arith; same = ap length e ∙ put-length 0 xs old; memory = λ room. e ∙ put-room 0 xs old room }
 
 -- a part, and one at the offset after it, are one part
 pub put_then : {at mid next : ℕ} {xs ys old new newer : List ℕ} → Put at mid xs old new → Put mid next ys new newer
@@ -40,18 +43,6 @@ put_then {at} {mid} {next} {xs} {ys} {old} {new} p q =
 -- a part of octets that are equal to others is one of those
 pub put-named : {at next : ℕ} {xs ys old new : List ℕ} → xs ≡ ys → Put at next xs old new → Put at next ys old new
 put-named {at} {next} {xs} {ys} {old} {new} e p = subst (λ (l : List ℕ). Put at next l old new) e p
-
--- a text of n octets that was written to the start of a line and put from there
-pub put-line : {at next n : ℕ} {xs before line old new : List ℕ} → Written 0 n xs before line → Put at next (take n line) old new
-    → Put at next xs old new × (next ≡ at + n)
-put-line w p = (put-named (stands w).1 p, omega (arith, p.place, (stands w).0))
-
--- the same of a line that `octets::put_octets` copied
-pub line-put : {at next n : ℕ} {xs before line old new : List ℕ} → next ≡ at + n → Written 0 n xs before line
-    → new ≡ put at (take n line) old → Put at next xs old new
-line-put {at} {next} {n} {xs} {before} {line} {old} {new} e w f =
-    let p = put-line w (put-octets f) in
-    subst (λ (k : ℕ). Put at k xs old new) (p.1 ∙ sym e) p.0
 
 -- at the start of memory that has room
 pub put-start : {n : ℕ} {xs old new : List ℕ} → Put 0 n xs old new → length xs ≤ length old → new ≡ over xs old

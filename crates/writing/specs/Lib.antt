@@ -1,4 +1,4 @@
--- Parts of a text, written one after the other into a buffer that has room for them, or copied if it has room. Assumes nothing.
+-- Parts of a text, one after the other, and memory after a text was copied to it if it had room. Assumes nothing.
 pub mod Parts
 pub mod Put
 pub mod Numbers

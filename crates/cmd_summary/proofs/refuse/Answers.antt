@@ -12,10 +12,10 @@ returns-then-out-n c =
     let e = c.put_refused-n.ensures in
     let line = refused_line a.refusal in
     let long : length a.out.now < length line = omega (arith, e.0, c.if-out-n.true) in
-    rw (e.1, put-none 0 line a.out.now (omega (arith, long))) (output-short 0 line a.out.now refl long)
+    rw (e.1, put-none 0 line a.out.now (omega (arith, long))) (rw c.from.ensures (output-short 0 line a.out.now refl long))
 
-pub overflow_cast-result : goal.overflow_cast-result
-overflow_cast-result c =
+pub overflow_cast-n : goal.overflow_cast-n
+overflow_cast-n c =
     let fits : c.args.refusal < 2 ^ 32 = omega arith in
     omega (arith, c.put_refused-n.ensures.0, refused-octets _ fits)
 
@@ -26,4 +26,4 @@ returns c =
     let line = refused_line a.refusal in
     let fits : length line ≤ length a.out.now = omega (arith, e.0, c.if-out-n.false) in
     let whole : 0 + length line ≤ length a.out.now = omega (arith, fits) in
-    output-written 0 line a.out.now refl fits e.0 (e.1 ∙ put-over 0 [] line a.out.now refl whole)
+    rw c.from-2.ensures (output-written 0 line a.out.now refl fits e.0 (e.1 ∙ put-over 0 [] line a.out.now refl whole))

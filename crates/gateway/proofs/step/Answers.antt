@@ -1,7 +1,6 @@
--- `gateway::step` meets its contract: what is said and the state are those of the receiver's step. Assumes nothing.
+-- What is said and the state are those of the receiver's step.
 use Rattle.receiver.proofs.StepCases.{as_step}
 use Rattle.gateway.proofs.step.Goals as goal
 
 pub returns : goal.returns
-returns c =
-    rw (c.step_outcome.ensures, c.step_state.ensures) (as_step c.args.r.now c.args.number c.args.time c.step-s.result c.step-s.ensures)
+returns c = as_step c.args.r.now c.args.number c.args.time c.step-s.result c.step-s.ensures

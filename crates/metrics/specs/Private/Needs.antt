@@ -1,5 +1,5 @@
 -- The state of a pass over the needs of a sample, its input for one record, and its step. Assumes nothing.
-use Rattle.std.specs.Prelude.{◌≡◌, false, cond, List, ℕ, zero, suc, ◌+◌, ◌*◌, ◌^◌, ◌<◌, leb, ltb, length, get_or}
+use Rattle.std.specs.Prelude.{◌≡◌, false, cond, List, ℕ, zero, suc, ◌+◌, ◌*◌, ◌^◌, ◌<◌, leb, length, max, get_or}
 use Rattle.rfc4737.specs.declared.Answer.{Answer}
 use Rattle.rfc4737.specs.declared.Arrival.{Arrival}
 use Rattle.rfc4737.specs.declared.Measure.{Measure}
@@ -11,36 +11,33 @@ use Rattle.sample.specs.Decode.{Decoded}
 use Rattle.metrics.specs.Sample.{size_of}
 use Rattle.metrics.specs.Figures.{step_count}
 use Rattle.metrics.specs.Records.{HasRecord, arrival_at, before, answer_at}
-use Rattle.metrics.specs.Private.Tables.{NumberTable, RecordTable, EngineTables, ClassOf, IfLate}
+use Rattle.metrics.specs.Private.Tables.{NumberTable, RecordTable, TablesAt, ClassOf, IfLate}
 use Rattle.metrics.specs.Private.Engine.{SizeTree}
-use Rattle.metrics.specs.declared.engine.byte_offset.Totals.{Totals}
+use Rattle.metrics.specs.declared.engine.byte_offset.PairTree.{PairTree}
 use Rattle.metrics.specs.declared.engine.kind.Class.{Class}
 use Rattle.metrics.specs.declared.engine.seen.State.{State}
+use Rattle.metrics.specs.declared.engine.seen.Tables.{Tables}
 use Rattle.metrics.specs.declared.figures.needs.Needs.{Needs}
 
 -- the tables and the tree after the first i arrivals
-pub record NeedState (d : Decoded) (i : ℕ) (numbers records skipped tree : List ℕ) (state : State) (totals : Totals) : Type 0 where
-  pub follows : EngineTables (before d i) numbers records skipped state
-  pub totalled : SizeTree (size_of d) (firsts (before d i)) tree totals
+pub record NeedState (d : Decoded) (i : ℕ) (tables : Tables) (tree : PairTree) (state : State) : Type 0 where
+  pub follows : TablesAt (before d i) tables state
+  pub totalled : SizeTree (size_of d) (firsts (before d i)) tree
 
 -- what a pass knows of record i + 1, an arrival of this class, to find its need; if it is reordered, its packet has not arrived
-pub record NeedInput (d : Decoded) (layout : Layout) (i : ℕ) (arrival : Arrival) (numbers records tree : List ℕ) (count : ℕ)
-    (totals : Totals) (class : Class) : Type 0 where
+pub record NeedInput (d : Decoded) (layout : Layout) (i : ℕ) (arrival : Arrival) (tables : Tables) (tree : PairTree) (count : ℕ)
+    (class : Class) : Type 0 where
   pub there : HasRecord d layout i
   pub is : arrival ≡ arrival_at d i
-  pub numbered : NumberTable (firsts (before d i)) numbers count
-  pub recorded : RecordTable (before d i) records
+  pub numbered : NumberTable (firsts (before d i)) tables.numbers count
+  pub recorded : RecordTable (before d i) tables.records
   pub classed : ClassOf count class (answer_at d i)
   pub new : IfLate (λ (at : ℕ). has arrival.number (firsts (before d i)) ≡ false) class
-  pub totalled : SizeTree (size_of d) (firsts (before d i)) tree totals
-
--- the greater of two numbers
-abbrev pub greater_of : ℕ → ℕ → ℕ
-greater_of a b = cond (ltb a b) b a
+  pub totalled : SizeTree (size_of d) (firsts (before d i)) tree
 
 -- the needs after a first arrival whose need is `need`
 unfoldable pub needs_with : Needs → ℕ → Needs
-needs_with needs need = record { arrived = needs.arrived + 1; greatest = greater_of needs.greatest need }
+needs_with needs need = record { arrived = needs.arrived + 1; greatest = max needs.greatest need }
 
 -- the sum of the first n of some counts
 unfoldable pub count_to : List ℕ → ℕ → ℕ

@@ -1,6 +1,7 @@
 -- The steps and results of the passes for single figures: the kind of an arrival, shares and ratios, discoverers of discontinuities.
 -- Assumes nothing.
-use Rattle.std.specs.Prelude.{◌≡◌, Bool, false, cond, not, List, ℕ, zero, suc, ◌+◌, ◌≤◌, eqb, leb, length, get_or}
+use Rattle.std.specs.Prelude.{◌≡◌, Bool, false, cond, not, List, ℕ, zero, suc, ◌+◌, ◌≤◌, eqb, leb, length, get_or, IfSome}
+use Rattle.std.specs.Prelude.{Option as Found, Some, None}
 use Rattle.std.proofs.Math.Option.{Option, none, some}
 use Rattle.rfc4737.specs.declared.Arrival.{Arrival}
 use Rattle.rfc4737.specs.declared.Answer.{Answer}
@@ -17,6 +18,7 @@ use Rattle.sample.specs.Decode.{Decoded}
 use Rattle.metrics.specs.Records.{before, answer_at, number_places}
 use Rattle.metrics.specs.Private.Tables.{NumberTable, LinkTable}
 use Rattle.metrics.specs.declared.engine.kind.Class.{Class}
+use Rattle.metrics.specs.declared.RecordAnswer.{RecordAnswer}
 use Rattle.metrics.specs.declared.figures.Shares.{Shares}
 
 -- ---- counts
@@ -80,14 +82,29 @@ unfoldable pub last_to : List ℕ → ℕ → ℕ
 last_to discoverers zero = 0
 last_to discoverers (suc p) = cond (eqb (get_or discoverers (suc p) 0) 0) (last_to discoverers p) (suc p)
 
--- the number of first arrivals after a record, which has this position (0 for a duplicate) and comes after `count` first arrivals
-abbrev pub count_after : (count position : ℕ) → ℕ
-count_after count position = cond (eqb position 0) count position
+-- a position that was found, or none
+abbrev pub found : Found ℕ → Option ℕ
+found None = none
+found (Some p) = some p
 
--- `position` is that of record i + 1, after `count` first arrivals: 0 for a duplicate, else the next; it is an index of a table by
+-- the number of first arrivals after a record, which has this position, if any, and comes after `count` first arrivals
+abbrev pub count_after : (count : ℕ) (position : Found ℕ) → ℕ
+count_after count None = count
+count_after count (Some p) = p
+
+-- `position` is that of record i + 1, after `count` first arrivals: none for a duplicate, else the next; it is an index of a table by
 -- position
-pub record PositionAt (d : Decoded) (i count position : ℕ) : Type 0 where
-  pub is : known position ≡ position_of (answer_at d i)
-  pub few : position ≤ sent_most
-  pub next : (position ≡ 0 → ⊥) → position ≡ count + 1
+pub record PositionAt (d : Decoded) (i count : ℕ) (position : Found ℕ) : Type 0 where
+  pub is : found position ≡ position_of (answer_at d i)
+  pub next : IfSome position (λ p. (p ≡ count + 1) × (p ≤ sent_most))
   pub after : count_after count position ≡ length (firsts (before d (i + 1)))
+
+-- ---- calls for one record
+
+-- what the call for an answer returns: the answer
+abbrev pub answered : Answer → RecordAnswer
+answered a = record { refusal = 0; answer = a }
+
+-- or a refusal
+abbrev pub unanswered : ℕ → RecordAnswer
+unanswered r = record { refusal = r; answer = Answer.InOrder (record { position = 0; jump = 0 }) }

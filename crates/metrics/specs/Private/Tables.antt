@@ -12,6 +12,7 @@ use Rattle.sample.specs.Places.{no_arrival}
 use Rattle.metrics.specs.Records.{number_places}
 use Rattle.metrics.specs.declared.engine.kind.Class.{Class}
 use Rattle.metrics.specs.declared.engine.seen.State.{State}
+use Rattle.metrics.specs.declared.engine.seen.Tables.{Tables}
 
 -- `new` is `old` with `value` at the indices from `from` to before `to`
 pub record Filled (from to value : ℕ) (old new : List ℕ) : Type 0 where
@@ -53,6 +54,10 @@ pub record EngineTables (earlier : List Arrival) (numbers records skipped : List
   pub recorded : RecordTable earlier records
   pub skips : (s : ℕ) → 1 ≤ s → s < next_exp (firsts earlier) → has s earlier ≡ false
       → (p : FirstArrival) → discontinuity (firsts earlier) s ≡ some p → get_or skipped s 0 ≡ p.position
+
+-- the same of the tables of the engine
+abbrev pub TablesAt : (earlier : List Arrival) → Tables → State → Type 0
+TablesAt earlier tables state = EngineTables earlier tables.numbers tables.records tables.skipped state
 
 -- links by the largest n: for each first arrival, `links[number] + more == largest n + 1`; from NextExp on every entry is 0
 pub record LinkTable (more : ℕ) (fs : List Arrival) (links : List ℕ) : Type 0 where

@@ -5,54 +5,46 @@ ghost use Rattle.rfc4737.specs.Extent.{byte_offset, largest_n};
 ghost use Rattle.rfc4737.specs.Judge.{sent_most};
 ghost use Rattle.sample.specs.Decode.{decode};
 ghost use Rattle.metrics.specs.Sample.{size_of};
-ghost use Rattle.metrics.specs.Records.{FileLayout};
 ghost use Rattle.metrics.specs.Private.Tables.{NumberTable, Packets, Links};
 
-use crate::engine::input;
-use crate::engine::seen::{MAX_FIRST_ARRIVALS, PACKET_TABLE_LEN, wide};
-use sample::Layout;
+use crate::engine::input::CheckedFile;
+use crate::engine::seen::{MAX_FIRST_ARRIVALS, PACKET_TABLE_LEN};
 
 // The byte offset of packet s: the sizes of the greater numbers from index `from` on, before which no number is greater.
 pub(crate) fn offset(
-    file: &[u8],
-    layout: Layout,
+    file: &CheckedFile,
     numbers: &[u16; MAX_FIRST_ARRIVALS],
     from: u32,
     count: u32,
     s: u32,
 ) -> u32
-    requires { FileLayout (decode file.now) layout × (count ≤ sent_most) × Packets numbers.now count layout.sent }
+    requires { (count ≤ sent_most) × Packets numbers.now count file.now.layout.sent }
     ensures { (fs : List Arrival) → NumberTable fs numbers.now count
-        → byte_offset (size_of (decode file.now)) (take from fs) s ≡ 0
-        → result ≡ byte_offset (size_of (decode file.now)) fs s }
+        → byte_offset (size_of (decode file.now.file.now)) (take from fs) s ≡ 0
+        → result ≡ byte_offset (size_of (decode file.now.file.now)) fs s }
 {
     let mut sum: u32 = 0;
-    let mut p = from;
-    while p < count {
-        let place = p as usize;
-        let number = wide(numbers[place]);
+    for p in from..count {
+        let number = numbers[p as usize] as u32;
         if s < number {
-            sum += input::size_of(file, layout, number);
+            sum += file.size_of(number);
         }
-        p += 1;
     }
     sum
 }
 
-// The largest n of packet s: how many of the first arrivals directly before it have greater numbers.
+// The largest n of packet s: how many of the first arrivals directly before it have greater numbers. Where one record is asked for, no
+// links are kept, so this goes back one by one, and `largest_by_links` stands beside it.
 pub(crate) fn largest(numbers: &[u16; MAX_FIRST_ARRIVALS], count: u32, s: u32) -> u32
     requires { count ≤ sent_most }
     ensures { (fs : List Arrival) → NumberTable fs numbers.now count → result ≡ largest_n fs s }
 {
-    let mut p = count;
-    while 0 < p {
-        let place = (p - 1) as usize;
-        if wide(numbers[place]) <= s {
-            return count - p;
+    for p in (0..count).rev() {
+        if numbers[p as usize] as u32 <= s {
+            return count - 1 - p;
         }
-        p -= 1;
     }
-    count - p
+    count
 }
 
 // The largest n of packet s, by links. A first arrival with a greater number is skipped together with those directly before it that its
@@ -70,12 +62,12 @@ pub(crate) fn largest_by_links(
     let mut p = count;
     while 0 < p {
         let place = (p - 1) as usize;
-        let number = wide(numbers[place]);
+        let number = numbers[place] as u32;
         if number <= s {
             return count - p;
         }
         let packet = number as usize;
-        p = p - more - wide(links[packet]);
+        p = p - more - links[packet] as u32;
     }
     count - p
 }

@@ -1,115 +1,78 @@
 // The answer for one record.
-ghost use Rattle.std.specs.Prelude.{◌≡◌, [], ◌∷◌, ◌≤◌};
-ghost use Rattle.rfc4737.specs.Refusals.{outside, refusal_if, first_refusal, asked_outside};
+ghost use Rattle.std.specs.Prelude.{◌≡◌, List, ℕ, ◌+◌, ◌-◌, ◌≤◌, ◌<◌, take, IfOk, IfErr};
+ghost use Rattle.rfc4737.specs.declared.Arrival.{Arrival};
+ghost use Rattle.rfc4737.specs.Extent.{byte_offset, largest_n};
+ghost use Rattle.rfc4737.specs.Judge.{sent_most};
 ghost use Rattle.sample.specs.Decode.{decode};
-ghost use Rattle.metrics.specs.Records.{FileLayout, HasRecord, before, answer_at};
-ghost use Rattle.metrics.specs.Private.Tables.{EngineTables};
+ghost use Rattle.metrics.specs.Sample.{size_of};
+ghost use Rattle.metrics.specs.Records.{before, answer_at};
+ghost use Rattle.metrics.specs.Private.Tables.{NumberTable, Packets, IfLate, TablesAt};
+ghost use Rattle.metrics.specs.Private.Steps.{answered, unanswered};
 ghost use Rattle.metrics.specs.Figures.{record_answer};
 
-use crate::RecordAnswer;
-use crate::engine::input;
-use crate::engine::kind::{Class, answer_by, class_of};
+use crate::engine::input::CheckedFile;
+use crate::engine::kind::{Class, LateFigures};
 use crate::engine::largest_n::{largest, offset};
-use crate::engine::seen::{MAX_FIRST_ARRIVALS, PACKET_TABLE_LEN, State, note, start_state};
-use rfc4737::judge::outside;
-use rfc4737::refusal::{ASKED_OUTSIDE, NONE};
-use rfc4737::{Answer, InOrderFigures};
-use sample::Layout;
-
-// The refusal of a call that asks for a number from low to high: the file's own, then 9.
-pub(crate) fn asked_refusal(own: u32, low: u32, high: u32, asked: u32) -> u32
-    ensures { result ≡ first_refusal (own ∷ refusal_if (outside low high asked) asked_outside ∷ []) }
-{
-    if own != NONE {
-        return own;
-    }
-    if outside(low as u64, high as u64, asked as u64) {
-        return ASKED_OUTSIDE;
-    }
-    NONE
-}
+use crate::engine::seen::{MAX_FIRST_ARRIVALS, State, Tables};
+use rfc4737::Answer;
 
 // Notes the first n records.
-fn note_records(
-    file: &[u8],
-    layout: Layout,
-    n: u32,
-    numbers: &mut [u16; MAX_FIRST_ARRIVALS],
-    records: &mut [u16; PACKET_TABLE_LEN],
-    skipped: &mut [u16; PACKET_TABLE_LEN],
-) -> State
-    requires { FileLayout (decode file.now) layout × (n ≤ layout.arrivals)
-        × EngineTables (before (decode file.now) 0) numbers.old records.old skipped.old (record { count = 0; next = 1 }) }
-    ensures { EngineTables (before (decode file.now) n) numbers.new records.new
-        skipped.new result }
+fn note_records(file: &CheckedFile, n: u32, tables: &mut Tables) -> State
+    requires { (n ≤ file.now.layout.arrivals) × TablesAt (before (decode file.now.file.now) 0) tables.old (record { count = 0; next = 1 }) }
+    ensures { TablesAt (before (decode file.now.file.now) n) tables.new result }
 {
-    let mut state = start_state();
-    let mut i: u32 = 0;
-    while i < n {
-        let number = input::number_of(file, layout, i);
-        state = note(numbers, records, skipped, i, number, 0, state);
-        i += 1;
+    let mut state = State::START;
+    for i in 0..n {
+        state = tables.note(i, file.number_of(i), 0, state);
     }
     state
 }
 
-// The answer for record i + 1 from the tables of the records before it: O(extent) for a reordered packet, else O(1).
-fn answer_at(
-    file: &[u8],
-    layout: Layout,
-    i: u32,
+// The byte offset and the largest n of the next arrival, by a search, if it is reordered, and 0 if not.
+fn late_figures(
+    file: &CheckedFile,
     numbers: &[u16; MAX_FIRST_ARRIVALS],
-    records: &[u16; PACKET_TABLE_LEN],
-    skipped: &[u16; PACKET_TABLE_LEN],
-    state: State,
-) -> Answer
-    requires { HasRecord (decode file.now) layout i × EngineTables (before (decode file.now) i) numbers.now records.now
-        skipped.now state }
-    ensures { result ≡ answer_at (decode file.now) i }
+    count: u32,
+    s: u32,
+    class: Class,
+) -> LateFigures
+    requires { (count ≤ sent_most) × Packets numbers.now count file.now.layout.sent × IfLate (λ (at : ℕ). (1 ≤ at) × (at ≤ count)) class }
+    ensures { (fs : List Arrival) → NumberTable fs numbers.now count
+        → IfLate (λ (at : ℕ). (byte_offset (size_of (decode file.now.file.now)) (take (at - 1) fs) s ≡ 0
+        → result.offset ≡ byte_offset (size_of (decode file.now.file.now)) fs s) × (result.largest ≡ largest_n fs s)) class }
 {
-    let arrival = input::arrival_at(file, layout, i);
-    let number = arrival.number;
-    let count = state.count;
-    let class = class_of(records, skipped, state.next, number);
-    match class {
-        Class::Duplicate(_) => answer_by(
-            file, layout, i, arrival, numbers, records, count, class, 0, 0,
-        ),
-        Class::InOrder(_) => answer_by(
-            file, layout, i, arrival, numbers, records, count, class, 0, 0,
-        ),
-        Class::Reordered(at) => {
-            let offset = offset(file, layout, numbers, at - 1, count, number);
-            let largest = largest(numbers, count, number);
-            answer_by(
-                file, layout, i, arrival, numbers, records, count, class, offset, largest,
-            )
-        }
+    let Class::Reordered(at) = class else {
+        return LateFigures {
+            offset: 0,
+            largest: 0,
+        };
+    };
+    LateFigures {
+        offset: offset(file, numbers, at - 1, count, s),
+        largest: largest(numbers, count, s),
     }
 }
 
-// The answer for record `asked` of a file: a pass over the records before it, and O(extent) for a reordered packet.
-pub(crate) fn answer_of(file: &[u8], layout: Layout, asked: u32) -> RecordAnswer
-    requires { FileLayout (decode file.now) layout }
-    ensures { result ≡ record_answer (decode file.now) asked }
+// The answer for record i + 1 from the tables of the records before it: O(extent) for a reordered packet, else O(1).
+fn answer_at(file: &CheckedFile, i: u32, tables: &Tables, state: State) -> Answer
+    requires { (i < file.now.layout.arrivals) × TablesAt (before (decode file.now.file.now) i) tables.now state }
+    ensures { result ≡ answer_at (decode file.now.file.now) i }
 {
-    let refusal = asked_refusal(layout.refusal, 1, layout.arrivals, asked);
-    if refusal != NONE {
-        return RecordAnswer {
-            refusal,
-            answer: Answer::InOrder(InOrderFigures {
-                position: 0,
-                jump: 0,
-            }),
-        };
-    }
+    let arrival = file.arrival_at(i);
+    let number = arrival.number;
+    let class = tables.class_of(state.next, number);
+    let late = late_figures(file, &tables.numbers, state.count, number, class);
+    tables.answer_by(file, i, arrival, state.count, class, late)
+}
+
+// The answer for record `asked` of a file, or the refusal: a pass over the records before it, and O(extent) for a reordered packet.
+pub(crate) fn answer_of(file: &CheckedFile, asked: u32) -> Result<Answer, u32>
+    ensures ok { IfOk result (λ a. answered a ≡ record_answer (decode file.now.file.now) asked) }
+    ensures err { IfErr result (λ r. unanswered r ≡ record_answer (decode file.now.file.now) asked) }
+{
+    file.asked(1, file.layout.arrivals, asked)?;
     let i = asked - 1;
-    let mut numbers = [0u16; MAX_FIRST_ARRIVALS];
-    let mut records = [0u16; PACKET_TABLE_LEN];
-    let mut skipped = [0u16; PACKET_TABLE_LEN];
-    let state = note_records(file, layout, i, &mut numbers, &mut records, &mut skipped);
-    RecordAnswer {
-        refusal,
-        answer: answer_at(file, layout, i, &numbers, &records, &skipped, state),
-    }
+    let mut tables = Tables::new();
+    let state = note_records(file, i, &mut tables);
+    Ok(answer_at(file, i, &tables, state))
 }

@@ -1,6 +1,7 @@
 // Gaps, by a table that has at the position of each discontinuity the position of its discoverer, and 0 elsewhere. For one record the
-// table is searched downward from the record's position; for all records it is read once, upward.
-ghost use Rattle.std.specs.Prelude.{◌≡◌, List, [], ◌∷◌, ◌++◌, ℕ, ◌+◌, ◌-◌, ◌≤◌, length, replicate};
+// table is searched downward from the record's position; for all records it is read once, upward. An entry of 0 stands for none, as an
+// `Option` would take twice the memory.
+ghost use Rattle.std.specs.Prelude.{◌≡◌, List, [], ◌∷◌, ◌++◌, ℕ, ◌+◌, ◌-◌, ◌≤◌, ◌<◌, length, replicate, IfOk, IfErr, IfSome};
 ghost use Rattle.std.proofs.Math.Option.{some};
 ghost use Rattle.octets.specs.Memory.{over};
 ghost use Rattle.rfc4737.specs.declared.Answer.{Answer};
@@ -9,20 +10,15 @@ ghost use Rattle.rfc4737.specs.Gaps.{position_of, gap_of};
 ghost use Rattle.rfc4737.specs.Judge.{sent_most};
 ghost use Rattle.sample.specs.Decode.{decode};
 ghost use Rattle.metrics.specs.Sample.{sample_arrivals, answers_of};
-ghost use Rattle.metrics.specs.Records.{FileLayout, HasRecord, before, answer_at, answers_to, number_places};
+ghost use Rattle.metrics.specs.Records.{before, answer_at, answers_to, number_places};
 ghost use Rattle.metrics.specs.Figures.{record_gap};
 ghost use Rattle.metrics.specs.Gaps.{gap_number, gap_numbers};
-ghost use Rattle.metrics.specs.Private.Tables.{EngineTables, RecordTable, ClassOf, IfLate};
-ghost use Rattle.metrics.specs.Private.Steps.{known, DiscoverersAt, last_to, count_after, PositionAt};
+ghost use Rattle.metrics.specs.Private.Tables.{RecordTable, ClassOf, IfLate, TablesAt};
+ghost use Rattle.metrics.specs.Private.Steps.{found, known, DiscoverersAt, last_to, count_after, PositionAt};
 
-use crate::RecordGap;
-use crate::engine::input;
-use crate::engine::kind::{Class, class_of};
-use crate::engine::seen::{MAX_FIRST_ARRIVALS, PACKET_TABLE_LEN, State, note, start_state, wide};
-use crate::figures::answers::asked_refusal;
-use rfc4737::Gap;
-use rfc4737::refusal::NONE;
-use sample::Layout;
+use crate::engine::input::CheckedFile;
+use crate::engine::kind::Class;
+use crate::engine::seen::{PACKET_TABLE_LEN, State, Tables};
 
 // If the next arrival, after `count` first arrivals, is the first with its discontinuity, notes its position there.
 fn note_discoverer(discoverers: &mut [u16; PACKET_TABLE_LEN], count: u32, class: Class)
@@ -30,238 +26,197 @@ fn note_discoverer(discoverers: &mut [u16; PACKET_TABLE_LEN], count: u32, class:
     ensures { (l : List Answer) (a : Answer) → ClassOf count class a → DiscoverersAt l discoverers.old
         → DiscoverersAt (l ++ (a ∷ [])) discoverers.new }
 {
-    match class {
-        Class::Duplicate(_) => return,
-        Class::InOrder(_) => return,
-        Class::Reordered(at) => {
-            let place = at as usize;
-            if discoverers[place] == 0 {
-                discoverers[place] = (count + 1) as u16;
-            }
-        }
+    let Class::Reordered(at) = class else {
+        return;
+    };
+    let place = at as usize;
+    if discoverers[place] == 0 {
+        discoverers[place] = (count + 1) as u16;
     }
 }
 
-// The position of an arrival, after `count` first arrivals; 0 for a duplicate.
-fn position_of(count: u32, class: Class) -> u32
+// The position of an arrival, after `count` first arrivals; a duplicate has none.
+fn position_of(count: u32, class: Class) -> Option<u32>
     requires { count ≤ sent_most }
-    ensures { (a : Answer) → ClassOf count class a → known result ≡ position_of a }
+    ensures { (a : Answer) → ClassOf count class a → found result ≡ position_of a }
 {
     match class {
-        Class::Duplicate(_) => 0,
-        Class::InOrder(_) => count + 1,
-        Class::Reordered(_) => count + 1,
+        Class::Duplicate(_) => None,
+        Class::InOrder(_) | Class::Reordered(_) => Some(count + 1),
     }
 }
 
 // Goes over records `from` + 1 to `to`, and notes at each discontinuity the position of its discoverer.
 fn note_to(
-    file: &[u8],
-    layout: Layout,
+    file: &CheckedFile,
     from: u32,
     to: u32,
-    numbers: &mut [u16; MAX_FIRST_ARRIVALS],
-    records: &mut [u16; PACKET_TABLE_LEN],
-    skipped: &mut [u16; PACKET_TABLE_LEN],
+    tables: &mut Tables,
     discoverers: &mut [u16; PACKET_TABLE_LEN],
     start: State,
 ) -> State
-    requires { FileLayout (decode file.now) layout × (from ≤ to) × (to ≤ layout.arrivals)
-        × EngineTables (before (decode file.now) from) numbers.old records.old skipped.old start
-        × DiscoverersAt (answers_to (decode file.now) from) discoverers.old }
-    ensures { EngineTables (before (decode file.now) to) numbers.new records.new
-        skipped.new result
-        × DiscoverersAt (answers_to (decode file.now) to) discoverers.new }
+    requires { (from ≤ to) × (to ≤ file.now.layout.arrivals) × TablesAt (before (decode file.now.file.now) from) tables.old start
+        × DiscoverersAt (answers_to (decode file.now.file.now) from) discoverers.old }
+    ensures { TablesAt (before (decode file.now.file.now) to) tables.new result
+        × DiscoverersAt (answers_to (decode file.now.file.now) to) discoverers.new }
 {
     let mut state = start;
-    let mut i = from;
-    while i < to {
-        let number = input::number_of(file, layout, i);
-        let class = class_of(records, skipped, state.next, number);
+    for i in from..to {
+        let number = file.number_of(i);
+        let class = tables.class_of(state.next, number);
         note_discoverer(discoverers, state.count, class);
-        state = note(numbers, records, skipped, i, number, 0, state);
-        i += 1;
+        state = tables.note(i, number, 0, state);
     }
     state
 }
 
-// Notes at every discontinuity of a sample the position of its discoverer, and returns the position of the record asked for, 0 for a
-// duplicate. The pass is split before that record, so that no loop tests for it.
+// Notes at every discontinuity of a sample the position of its discoverer, and returns the position of the record asked for; a duplicate
+// has none. The pass is split before that record, so that no loop tests for it.
 fn note_discoverers(
-    file: &[u8],
-    layout: Layout,
+    file: &CheckedFile,
     asked: u32,
     discoverers: &mut [u16; PACKET_TABLE_LEN],
-) -> u32
-    requires { FileLayout (decode file.now) layout × (1 ≤ asked) × (asked ≤ layout.arrivals)
-        × (discoverers.old ≡ replicate number_places 0) }
-    ensures { (known result ≡ position_of (answer_at (decode file.now) (asked - 1)))
-        × DiscoverersAt (answers_of (decode file.now)) discoverers.new }
+) -> Option<u32>
+    requires { (1 ≤ asked) × (asked ≤ file.now.layout.arrivals) × (discoverers.old ≡ replicate number_places 0) }
+    ensures { (found result ≡ position_of (answer_at (decode file.now.file.now) (asked - 1)))
+        × DiscoverersAt (answers_of (decode file.now.file.now)) discoverers.new }
 {
-    let mut numbers = [0u16; MAX_FIRST_ARRIVALS];
-    let mut records = [0u16; PACKET_TABLE_LEN];
-    let mut skipped = [0u16; PACKET_TABLE_LEN];
+    let mut tables = Tables::new();
     let i = asked - 1;
-    let state = note_to(
-        file,
-        layout,
-        0,
-        i,
-        &mut numbers,
-        &mut records,
-        &mut skipped,
-        discoverers,
-        start_state(),
-    );
-    let number = input::number_of(file, layout, i);
-    let class = class_of(&records, &skipped, state.next, number);
+    let state = note_to(file, 0, i, &mut tables, discoverers, State::START);
+    let class = tables.class_of(state.next, file.number_of(i));
     note_to(
         file,
-        layout,
         i,
-        layout.arrivals,
-        &mut numbers,
-        &mut records,
-        &mut skipped,
+        file.layout.arrivals,
+        &mut tables,
         discoverers,
         state,
     );
     position_of(state.count, class)
 }
 
-// The last discontinuity at a position from 1 to p, 0 if there is none.
-fn last_to(discoverers: &[u16; PACKET_TABLE_LEN], p: u32) -> u32
+// The last discontinuity at a position from 1 to p, if there is one.
+fn last_to(discoverers: &[u16; PACKET_TABLE_LEN], p: u32) -> Option<u32>
     requires { p ≤ sent_most }
-    ensures { result ≡ last_to discoverers.now p }
+    ensures { found result ≡ known (last_to discoverers.now p) }
 {
-    let mut q = p;
-    while 0 < q {
-        let place = q as usize;
-        if discoverers[place] != 0 {
-            return q;
+    for q in (1..p + 1).rev() {
+        if discoverers[q as usize] != 0 {
+            return Some(q);
         }
-        q -= 1;
     }
-    0
+    None
 }
 
 // The gap of position p over `last`, the last discontinuity before it: there is one if `last` was discovered earlier.
-fn gap_over(discoverers: &[u16; PACKET_TABLE_LEN], last: u32, p: u32) -> Gap
-    requires { (1 ≤ p) × (p ≤ sent_most) × (last ≡ last_to discoverers.now (p - 1)) }
+fn gap_over(discoverers: &[u16; PACKET_TABLE_LEN], last: Option<u32>, p: u32) -> Option<u32>
+    requires { (1 ≤ p) × (p ≤ sent_most) × (found last ≡ known (last_to discoverers.now (p - 1))) }
     ensures { (l : List Answer) → DiscoverersAt l discoverers.now → result ≡ gap_of l (some p) }
 {
     let place = p as usize;
     if discoverers[place] == 0 {
-        return Gap::None;
+        return None;
     }
-    if last == 0 {
-        return Gap::None;
-    }
+    let Some(last) = last else {
+        return None;
+    };
     let neighbour = last as usize;
     if discoverers[neighbour] < discoverers[place] {
-        return Gap::Positions(p - last);
+        return Some(p - last);
     }
-    Gap::None
+    None
 }
 
 // The gap of position p. If it is no discontinuity, it has none, and nothing is searched.
-fn gap_at(discoverers: &[u16; PACKET_TABLE_LEN], p: u32) -> Gap
+fn gap_at(discoverers: &[u16; PACKET_TABLE_LEN], p: u32) -> Option<u32>
     requires { (1 ≤ p) × (p ≤ sent_most) }
     ensures { (l : List Answer) → DiscoverersAt l discoverers.now → result ≡ gap_of l (some p) }
 {
     let place = p as usize;
     if discoverers[place] == 0 {
-        return Gap::None;
+        return None;
     }
     let last = last_to(discoverers, p - 1);
     gap_over(discoverers, last, p)
 }
 
-// The gap of record `asked` of a file.
-pub(crate) fn gap_of(file: &[u8], layout: Layout, asked: u32) -> RecordGap
-    requires { FileLayout (decode file.now) layout }
-    ensures { result ≡ record_gap (decode file.now) asked }
+// The gap of record `asked` of a file, or the refusal.
+pub(crate) fn gap_of(file: &CheckedFile, asked: u32) -> Result<Option<u32>, u32>
+    ensures ok { IfOk result (λ g. record { refusal = 0; gap = g } ≡ record_gap (decode file.now.file.now) asked) }
+    ensures err { IfErr result (λ r. record { refusal = r; gap = None } ≡ record_gap (decode file.now.file.now) asked) }
 {
-    let refusal = asked_refusal(layout.refusal, 1, layout.arrivals, asked);
-    if refusal != NONE {
-        return RecordGap {
-            refusal,
-            gap: Gap::None,
-        };
-    }
+    file.asked(1, file.layout.arrivals, asked)?;
     let mut discoverers = [0u16; PACKET_TABLE_LEN];
-    let position = note_discoverers(file, layout, asked, &mut discoverers);
-    if position == 0 {
-        return RecordGap {
-            refusal,
-            gap: Gap::None,
-        };
-    }
-    RecordGap {
-        refusal,
-        gap: gap_at(&discoverers, position),
-    }
+    let Some(position) = note_discoverers(file, asked, &mut discoverers) else {
+        return Ok(None);
+    };
+    Ok(gap_at(&discoverers, position))
 }
 
-// Of the records whose gaps are listed: how many are first arrivals, and the last discontinuity among their positions, 0 if there is none.
+// Of the records whose gaps are listed: how many are first arrivals, and the last discontinuity among their positions, if there is one.
 #[derive(Clone, Copy)]
 struct Listed {
     pub count: u32,
-    pub last: u32,
+    pub last: Option<u32>,
 }
 
-// The position of record i + 1, after `count` first arrivals; 0 for a duplicate. It is a first arrival if its packet's entry in `records`
-// is i + 1.
+// The position of record i + 1, after `count` first arrivals; a duplicate has none. It is a first arrival if its packet's entry in
+// `records` is i + 1.
 fn position_at(
-    file: &[u8],
-    layout: Layout,
+    file: &CheckedFile,
     records: &[u16; PACKET_TABLE_LEN],
     i: u32,
     count: u32,
+) -> Option<u32>
+    requires { (i < file.now.layout.arrivals) × RecordTable (sample_arrivals (decode file.now.file.now)) records.now
+        × (count ≡ length (firsts (before (decode file.now.file.now) i))) }
+    ensures { PositionAt (decode file.now.file.now) i count result }
+{
+    let packet = file.number_of(i) as usize;
+    if records[packet] as u32 == i + 1 {
+        return Some(count + 1);
+    }
+    None
+}
+
+// The gap of a position over `last`, the last discontinuity before it, as a number: 0 for no gap, and for no position.
+fn gap_number(
+    discoverers: &[u16; PACKET_TABLE_LEN],
+    last: Option<u32>,
+    position: Option<u32>,
 ) -> u32
-    requires { HasRecord (decode file.now) layout i × RecordTable (sample_arrivals (decode file.now)) records.now
-        × (count ≡ length (firsts (before (decode file.now) i))) }
-    ensures { PositionAt (decode file.now) i count result }
+    requires { IfSome position (λ p. (1 ≤ p) × (p ≤ sent_most) × (found last ≡ known (last_to discoverers.now (p - 1)))) }
+    ensures { (l : List Answer) → DiscoverersAt l discoverers.now → result ≡ gap_number (gap_of l (found position)) }
 {
-    let at = input::number_of(file, layout, i) as usize;
-    if wide(records[at]) == i + 1 {
-        return count + 1;
-    }
-    0
-}
-
-// The gap of a position over `last`, the last discontinuity before it, as a number: 0 for no gap, and for position 0.
-fn gap_number(discoverers: &[u16; PACKET_TABLE_LEN], last: u32, position: u32) -> u32
-    requires { (position ≤ sent_most) × ((position ≡ 0 → ⊥) → last ≡ last_to discoverers.now (position - 1)) }
-    ensures { (l : List Answer) → DiscoverersAt l discoverers.now → result ≡ gap_number (gap_of l (known position)) }
-{
-    if position == 0 {
+    let Some(position) = position else {
         return 0;
-    }
+    };
     match gap_over(discoverers, last, position) {
-        Gap::None => 0,
-        Gap::Positions(gap) => gap,
+        None => 0,
+        Some(gap) => gap,
     }
 }
 
-// `listed` after a record at `position`, which is the next position or, for a duplicate, 0.
-fn listed_after(discoverers: &[u16; PACKET_TABLE_LEN], listed: Listed, position: u32) -> Listed
-    requires { (position ≤ sent_most) × (listed.last ≡ last_to discoverers.now listed.count)
-        × ((position ≡ 0 → ⊥) → position ≡ listed.count + 1) }
-    ensures { (result.count ≡ count_after listed.count position) × (result.last ≡ last_to discoverers.now result.count) }
+// `listed` after a record at `position`, the next one if it has one.
+fn listed_after(
+    discoverers: &[u16; PACKET_TABLE_LEN],
+    listed: Listed,
+    position: Option<u32>,
+) -> Listed
+    requires { IfSome position (λ p. (p ≡ listed.count + 1) × (p ≤ sent_most))
+        × (found listed.last ≡ known (last_to discoverers.now listed.count)) }
+    ensures { (result.count ≡ count_after listed.count position)
+        × (found result.last ≡ known (last_to discoverers.now result.count)) }
 {
-    if position == 0 {
+    let Some(count) = position else {
         return listed;
-    }
-    let place = position as usize;
-    if discoverers[place] == 0 {
-        return Listed {
-            count: position,
-            last: listed.last,
-        };
+    };
+    if discoverers[count as usize] == 0 {
+        return Listed { count, ..listed };
     }
     Listed {
-        count: position,
+        count,
         last: position,
     }
 }
@@ -269,47 +224,40 @@ fn listed_after(discoverers: &[u16; PACKET_TABLE_LEN], listed: Listed, position:
 // Lists the gaps of all records by the tables of the whole sample. Positions rise by 1 with each first arrival, so the last discontinuity
 // before each is known without a search.
 fn list_gaps(
-    file: &[u8],
-    layout: Layout,
+    file: &CheckedFile,
     records: &[u16; PACKET_TABLE_LEN],
     discoverers: &[u16; PACKET_TABLE_LEN],
     gaps: &mut [u32],
 )
-    requires { FileLayout (decode file.now) layout × (layout.arrivals ≤ length gaps.old)
-        × RecordTable (sample_arrivals (decode file.now)) records.now
-        × DiscoverersAt (answers_of (decode file.now)) discoverers.now }
-    ensures { gaps.new ≡ over (gap_numbers (answers_of (decode file.now))) gaps.old }
+    requires { (file.now.layout.arrivals ≤ length gaps.old) × RecordTable (sample_arrivals (decode file.now.file.now)) records.now
+        × DiscoverersAt (answers_of (decode file.now.file.now)) discoverers.now }
+    ensures { gaps.new ≡ over (gap_numbers (answers_of (decode file.now.file.now))) gaps.old }
 {
-    let mut listed = Listed { count: 0, last: 0 };
-    let mut i: u32 = 0;
-    while i < layout.arrivals {
-        let position = position_at(file, layout, records, i, listed.count);
-        let place = i as usize;
-        gaps[place] = gap_number(discoverers, listed.last, position);
+    let mut listed = Listed {
+        count: 0,
+        last: None,
+    };
+    for i in 0..file.layout.arrivals {
+        let position = position_at(file, records, i, listed.count);
+        gaps[i as usize] = gap_number(discoverers, listed.last, position);
         listed = listed_after(discoverers, listed, position);
-        i += 1;
     }
 }
 
 // Writes the gaps of all records: one pass notes the discoverers of all discontinuities, another lists the gaps.
-pub(crate) fn put_gaps(file: &[u8], layout: Layout, gaps: &mut [u32])
-    requires { FileLayout (decode file.now) layout × (layout.arrivals ≤ length gaps.old) }
-    ensures { gaps.new ≡ over (gap_numbers (answers_of (decode file.now))) gaps.old }
+pub(crate) fn put_gaps(file: &CheckedFile, gaps: &mut [u32])
+    requires { file.now.layout.arrivals ≤ length gaps.old }
+    ensures { gaps.new ≡ over (gap_numbers (answers_of (decode file.now.file.now))) gaps.old }
 {
-    let mut numbers = [0u16; MAX_FIRST_ARRIVALS];
-    let mut records = [0u16; PACKET_TABLE_LEN];
-    let mut skipped = [0u16; PACKET_TABLE_LEN];
+    let mut tables = Tables::new();
     let mut discoverers = [0u16; PACKET_TABLE_LEN];
     note_to(
         file,
-        layout,
         0,
-        layout.arrivals,
-        &mut numbers,
-        &mut records,
-        &mut skipped,
+        file.layout.arrivals,
+        &mut tables,
         &mut discoverers,
-        start_state(),
+        State::START,
     );
-    list_gaps(file, layout, &records, &discoverers, gaps);
+    list_gaps(file, &tables.records, &discoverers, gaps);
 }

@@ -1,51 +1,40 @@
 // A line compared with a text: how far they agree.
 ghost use Rattle.std.specs.Prelude.{◌≡◌, ◌+◌, ◌^◌, ◌≤◌, ◌<◌, length, drop};
 ghost use Rattle.metrics.specs.Agreement.{common};
-ghost use Rattle.metrics.specs.Private.Taken.{Agreed};
-
-// How many octets of a line agree with a text, from the start on, and whether all of them do.
-#[derive(Clone, Copy)]
-pub(crate) struct Part {
-    pub octets: usize,
-    pub whole: bool,
-}
+ghost use Rattle.metrics.specs.Private.Taken.{Agreed, part_of, moved};
 
 // How many octets two texts have in common, from their start on.
 fn common(one: &[u8], other: &[u8]) -> usize
     ensures { result ≡ common one.now other.now }
 {
-    let mut i: usize = 0;
-    while i < one.len() {
-        if other.len() <= i {
-            return i;
-        }
+    let shorter = one.len().min(other.len());
+    for i in 0..shorter {
         if one[i] != other[i] {
             return i;
         }
-        i += 1;
     }
-    i
+    shorter
 }
 
-// Compares a line with a text from the offset `at` on.
-pub(crate) fn compare_line(line: &[u8], text: &[u8], at: usize) -> Part
+// Compares a line with a text from the offset `at` on. Returns the line's length or, if it differs, how many octets agree.
+pub(crate) fn compare_line(line: &[u8], text: &[u8], at: usize) -> Result<usize, usize>
     requires { at ≤ length text.now }
-    ensures { Agreed line.now (drop at text.now) result }
+    ensures { Agreed line.now (drop at text.now) (part_of result) }
 {
     let octets = common(line, &text[at..]);
-    Part {
-        octets,
-        whole: octets == line.len(),
+    if octets == line.len() {
+        return Ok(octets);
     }
+    Err(octets)
 }
 
 // The agreement of all lines up to and including a part that begins at offset `at`.
-pub(crate) fn part_after(at: usize, part: Part) -> Part
-    requires { at + part.octets < 2 ^ 64 }
-    ensures { result ≡ record { octets = at + part.octets; whole = part.whole } }
+pub(crate) fn part_after(at: usize, part: Result<usize, usize>) -> Result<usize, usize>
+    requires { at + (part_of part).octets < 2 ^ 64 }
+    ensures { result ≡ moved at part }
 {
-    Part {
-        octets: at + part.octets,
-        whole: part.whole,
+    match part {
+        Ok(octets) => Ok(at + octets),
+        Err(octets) => Err(at + octets),
     }
 }

@@ -1,6 +1,8 @@
--- The answer of `advance` is the step's, and a refused step leaves an equal receiver (`as_step`). Assumes nothing.
+-- What the step returns is the definition's, and a refused one leaves an equal receiver.
+use Rattle.receiver.specs.Parts.{oldest_first}
 use Rattle.receiver.proofs.StepCases.{as_step}
 use Rattle.receiver.proofs.step_in_place.Goals as goal
 
 pub returns : goal.returns
-returns c = as_step c.args.r.now c.args.number c.args.time _ c.advance-a.ensures
+unfolding oldest_first
+returns c = rw c.of.ensures (as_step c.args.r.now c.args.number c.args.time _ c.step.ensures)

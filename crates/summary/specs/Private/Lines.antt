@@ -1,7 +1,6 @@
 -- The lines of a section from a list of figures, and what lists have the figures of a sample. Assumes nothing.
-use Rattle.std.specs.Prelude.{◌≡◌, List, [], ◌++◌, ℕ, zero, suc, ◌<◌, length, get_or}
+use Rattle.std.specs.Prelude.{◌≡◌, List, [], ◌++◌, ℕ, zero, suc, ◌<◌, length, get_or, None}
 use Rattle.rfc4737.specs.declared.Answer.{Answer}
-use Rattle.rfc4737.specs.declared.Gap.{Gap}
 use Rattle.rfc4737.specs.declared.Runs.{Runs}
 use Rattle.rfc4737.specs.Runs.{runs}
 use Rattle.rfc4737.specs.Tally as Tally
@@ -35,5 +34,5 @@ pub record CountsOf (l : List Answer) (tally degrees : List ℕ) : Type 0 where
 -- the lists have all figures but the summary's; the gaps stand as numbers
 pub record FiguresOf (l : List Answer) (tally degrees list : List ℕ) (r : Runs) : Type 0 where
   pub counts : CountsOf l tally degrees
-  pub gap : (k : ℕ) → k < length list → number_gap (get_or list k 0) ≡ at_record Gap.None (gaps l) (suc k)
+  pub gap : (k : ℕ) → k < length list → number_gap (get_or list k 0) ≡ at_record None (gaps l) (suc k)
   pub ran : r ≡ runs l

@@ -10,5 +10,5 @@ pub record RowsKnown (d : Decoded) (from to : ℕ) (rows : List ℕ) : Type 0 wh
   pub row : (i : ℕ) → from ≤ i → i < to → row_at rows (suc (i - from)) ≡ row_of (answer_at d i)
 
 -- memory has the rows of the records of a part
-unfoldable pub PartRows : Decoded → (part : ℕ) → List ℕ → Type 0
+abbrev pub PartRows : Decoded → (part : ℕ) → List ℕ → Type 0
 PartRows d part rows = RowsKnown d (block_start d (part - 1)) (block_start d part) rows

@@ -17,7 +17,7 @@ unfolding fresh_in fresh_of
 made r k e = rw e refl
 
 pub returns-then-outside : goal.returns-then-outside
-returns-then-outside c = rw c.refused_outcome.ensures (refused _ _ (sym c.outside.ensures ∙ c.if-outside.true))
+returns-then-outside c = rw (c.refused_outcome.ensures, c.number.ensures) (refused _ _ (sym c.outside.ensures ∙ c.if-outside.true))
 
 pub returns : goal.returns
 unfolding made_for

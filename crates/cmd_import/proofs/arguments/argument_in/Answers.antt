@@ -1,9 +1,7 @@
--- `cmd_import::arguments::argument_in` meets its contract: each `return` is one case of `argument_of`, by the tests that led to it,
--- taken of the digits that were read. Assumes nothing.
-use Rattle.std.proofs.Common.{◌^◌, ◌-◌, ◌≡◌, ap, ◌∙◌, length}
+-- Each return is one case of `argument_of`, by the tests that led to it, taken of the digits that were read.
+use Rattle.std.proofs.Common.{◌^◌, ◌-◌, ◌≡◌, None, Some, ap, ◌∙◌, length}
 use borrow.Author.Tests.{eq-eqb, ne_eqb, lt-ltb, le-ltb}
 use Rattle.cmd_import.specs.Arguments.{argument_of}
-use Rattle.cmd_import.specs.declared.arguments.Argument.TheVariants.{Given, Bad}
 use Rattle.cmd_import.proofs.arguments.argument_in.Goals as goal
 
 pub returns-then-number-eq0 : goal.returns-then-number-eq0
@@ -11,7 +9,7 @@ unfolding argument_of
 returns-then-number-eq0 c =
     let word = c.args.word.now in
     let r = c.number_at-number in
-    let e : Bad ≡ argument_of (length word) r.result =
+    let e : None ≡ argument_of (length word) r.result =
     rw (eq-eqb r.result.end 0 c.if-number-eq0.true) in
     e ∙ ap (argument_of (length word)) r.ensures.value
 
@@ -20,7 +18,7 @@ unfolding argument_of
 returns-then-number-word c =
     let word = c.args.word.now in
     let r = c.number_at-number in
-    let e : Bad ≡ argument_of (length word) r.result =
+    let e : None ≡ argument_of (length word) r.result =
     rw (ne_eqb r.result.end 0 c.if-number-eq0.false, lt-ltb r.result.end (length word) c.if-number-word.true) in
     e ∙ ap (argument_of (length word)) r.ensures.value
 
@@ -29,7 +27,7 @@ unfolding argument_of
 returns-then-value-gt-MAX_NUMBER c =
     let word = c.args.word.now in
     let r = c.number_at-number in
-    let e : Bad ≡ argument_of (length word) r.result =
+    let e : None ≡ argument_of (length word) r.result =
     rw (
       ne_eqb r.result.end 0 c.if-number-eq0.false,
       le-ltb r.result.end (length word) c.if-number-word.false,
@@ -42,7 +40,7 @@ unfolding argument_of
 returns c =
     let word = c.args.word.now in
     let r = c.number_at-number in
-    let e : Given r.result.value ≡ argument_of (length word) r.result =
+    let e : Some r.result.value ≡ argument_of (length word) r.result =
     rw (
       ne_eqb r.result.end 0 c.if-number-eq0.false,
       le-ltb r.result.end (length word) c.if-number-word.false,

@@ -1,4 +1,4 @@
--- `cmd_import::convert::import_lists` meets its contract: in each case of `kind` the importer that is called fills lists with room for any
+-- In each case of `kind` the importer that is called fills lists with room for any
 -- sample (`lines-imported`, `records-imported`). Assumes nothing.
 use Rattle.std.proofs.Common.{refl}
 use Rattle.cmd_import.specs.declared.convert.Kind.TheVariants.{Log, Log8, Log10}

@@ -1,8 +1,0 @@
--- `shortnumbers::step_10_in_place` meets its contract: the answer of `advance_10` is the step's with the number found
--- (`as-short-step`). Assumes nothing.
-use Rattle.shortnumbers.specs.Number.{range_of}
-use Rattle.shortnumbers.proofs.Steps.{as-short-step}
-use Rattle.shortnumbers.proofs.step_10_in_place.Goals as goal
-
-pub returns : goal.returns
-returns c = as-short-step (range_of 10) c.args.r.now c.args.short c.args.time _ c.advance_10-a.ensures
