@@ -10,14 +10,12 @@ Semicolons part statements and contracts into groups that belong together, in or
 gives record, file and contract for all rows. A file `sample/Decode` is crates/sample/specs/Decode.antt, `rfc4737/proofs/Skipped` is a file of
 proofs/, and then the last cell names the files of proofs/ that cite the statement. A contract is a public function's, or one of a program.
 
-Beside the rows: no public function has a `requires`, but for NEED_ROOM, and no public contract reaches a definition of specs/Private."""
+Beside the rows: no public function has a `requires`, and no public contract reaches a definition of specs/Private."""
 import glob
 import re
 import sys
 
 PAGE = 'docs/THEOREMS.md'
-# Public functions that have a `requires` (DECISIONS, point 109): writers of texts that ask for room.
-NEED_ROOM = {('writing', name) for name in ('octet', 'word', 'number', 'between', 'late_time', 'hand_over')} | {('summary', 'write_label_member')}
 NAME = r"[^\s(){}\[\];,.:\"]+"
 wrong = []
 rows = 0
@@ -142,7 +140,7 @@ for path in sorted(glob.glob('crates/*/src/**/*.rt', recursive=True)):
                 nodes = [uses[word] for word in words(body) if word in uses]
                 ensures[name] = {found_in(modules[node[:2]], node[2]) for node in nodes if node[:2] in modules} - {None}
             if re.match(r' *pub (?:extern "C" )?fn', part):
-                if clauses(part, 'requires') and (path.split('/')[1], fn.group(2)) not in NEED_ROOM:
+                if clauses(part, 'requires'):
                     wrong.append('%s: %s is public and has a requires' % (path, fn.group(2)))
                 for node in reached(set().union(*ensures.values())):
                     if node[1].startswith('specs/Private'):

@@ -1,7 +1,7 @@
 // Waiting time and buffer for C. A measure is a number, as C passes it: 0 packets, 1 octets, 2 time.
 
-ghost use Rattle.std.specs.Prelude.{◌≡◌, [], ◌∷◌, length};
-ghost use Rattle.rfc4737.specs.Refusals.{first_refusal, asked_outside};
+ghost use Rattle.std.specs.Prelude.{◌≡◌, IfSome, IfNone, true, false, [], ◌∷◌, length};
+ghost use Rattle.rfc4737.specs.Refusals.{first_refusal, asked_outside, outside};
 ghost use Rattle.sample.specs.Decode.{decode, decoded_refusal};
 ghost use Rattle.metrics.specs.Figures.{sample_accommodated, sample_needs, step_count, sample_steps};
 ghost use Rattle.buffering.specs.Least.{sample_least};
@@ -9,30 +9,22 @@ ghost use Rattle.capi.specs.Buffering.{measure_of, with_measure, need_figures, s
 
 use metrics::STEPS;
 use rfc4737::Measure;
-use rfc4737::judge::outside;
 use rfc4737::refusal::{NONE, Refusal};
-
-const PACKETS: u32 = 0;
-
-const OCTETS: u32 = 1;
-
-// The number of time, which is the greatest number of a measure.
-const TIME: u64 = 2;
 
 // The figures of several sizes: L, the greatest need, and a count for each size.
 const STEP_FIGURES: usize = STEPS + 2;
 
-// Returns the measure with this number. Any number above 2 gives time.
-fn measure_of(measure: u32) -> Measure
-    ensures { result ≡ measure_of measure }
+// Returns the measure with this number.
+fn measure_of(measure: u32) -> Option<Measure>
+    ensures some { IfSome result (λ m. (m ≡ measure_of measure) × (outside 0 2 measure ≡ false)) }
+    ensures none { IfNone result (outside 0 2 measure ≡ true) }
 {
-    if measure == PACKETS {
-        return Measure::Packets;
+    match measure {
+        0 => Some(Measure::Packets),
+        1 => Some(Measure::Octets),
+        2 => Some(Measure::Time),
+        _ => None,
     }
-    if measure == OCTETS {
-        return Measure::Octets;
-    }
-    Measure::Time
 }
 
 // Returns the refusal for a number that is no measure: the file's own, else 9.
@@ -69,11 +61,11 @@ pub extern "C" fn krakobran_accommodated(
         × (counts.new ≡ (sample_accommodated (with_measure measure (decode file.now)) (measure_of measure) size).accommodated
         ∷ (sample_accommodated (with_measure measure (decode file.now)) (measure_of measure) size).arrived ∷ []) }
 {
-    if outside(0, TIME, measure as u64) {
+    let Some(kind) = measure_of(measure) else {
         *counts = [0, 0];
         return no_measure(file);
-    }
-    let found = metrics::accommodated(file, measure_of(measure), size);
+    };
+    let found = metrics::accommodated(file, kind, size);
     *counts = [found.accommodated as u64, found.arrived as u64];
     found.refusal as u64
 }
@@ -105,13 +97,12 @@ pub extern "C" fn krakobran_accommodated_steps(
     ensures { steps_told result steps.new
         ≡ sample_steps (with_measure measure (decode file.now)) (measure_of measure) low shift }
 {
-    if outside(0, TIME, measure as u64) {
+    let Some(kind) = measure_of(measure) else {
         *steps = [0u64; STEP_FIGURES];
         return no_measure(file);
-    }
-    let found = metrics::accommodated_steps(file, measure_of(measure), low, shift);
-    let counts = found.counts;
-    *steps = step_figures(found.arrived, found.greatest, counts);
+    };
+    let found = metrics::accommodated_steps(file, kind, low, shift);
+    *steps = step_figures(found.arrived, found.greatest, found.counts);
     found.refusal as u64
 }
 
@@ -127,11 +118,11 @@ pub extern "C" fn krakobran_least_size(
     ensures { (result ≡ (sample_least (with_measure measure (decode file.now)) (measure_of measure) part whole).refusal)
         × (size.new ≡ (sample_least (with_measure measure (decode file.now)) (measure_of measure) part whole).size ∷ []) }
 {
-    if outside(0, TIME, measure as u64) {
+    let Some(kind) = measure_of(measure) else {
         *size = [0];
         return no_measure(file);
-    }
-    let found = buffering::least(file, measure_of(measure), part, whole);
+    };
+    let found = buffering::least(file, kind, part, whole);
     *size = [found.size];
     found.refusal as u64
 }

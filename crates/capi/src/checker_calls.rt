@@ -7,7 +7,8 @@ ghost use Rattle.capi.specs.Checker.{verdict_figures};
 
 use checker::{Verdict, check};
 
-// Returns the figures of a verdict: 1 if the listing agrees, else 0; and the number of its first wrong line, 0 if it agrees.
+// Returns the figures of a verdict: 1 if the listing agrees, else 0; and the number of its first wrong line, 0 if it agrees. A
+// function, and no From, as in figures.rt: the verdict and the array are both types of other crates.
 fn verdict_figures(verdict: Verdict) -> [u64; 2]
     ensures { result ≡ verdict_figures verdict }
 {
@@ -24,7 +25,6 @@ pub extern "C" fn krakobran_report_check(file: &[u8], report: &[u8], verdict: &m
         × (verdict.new ≡ verdict_figures (sample_verdict (decode file.now) report.now).verdict) }
 {
     let found = check(file, report);
-    let said = found.verdict;
-    *verdict = verdict_figures(said);
+    *verdict = verdict_figures(found.verdict);
     found.refusal as u64
 }

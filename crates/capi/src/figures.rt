@@ -40,10 +40,10 @@ pub fn gap_figures(gap: Option<u32>) -> [u64; 2]
 fn bits_of(x: f64) -> u64
     ensures { result ≡ to_bits binary64 x }
 {
-    if x != x {
+    if x.is_nan() {
         return 0x7ff8_0000_0000_0000;
     }
-    f64::to_bits(x)
+    x.to_bits()
 }
 
 // Returns 1 and the bits of a degree of n-reordering, or 0 and 0 if it is undefined.

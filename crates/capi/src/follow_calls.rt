@@ -11,9 +11,9 @@ ghost use Rattle.capi.specs.Sample.{write_told};
 ghost use Rattle.capi.specs.Outcomes.{noted_figures, noted_in, same_figures, ReadBack};
 ghost use Rattle.capi.specs.Follow.{follow_refusal, follow_outcome, counted_stream};
 
-use crate::outcomes::{noted_figures, refused_outcome};
+use crate::outcomes::{noted_figures, refused_outcome, write_told};
 use receiver::{Lateness, Outcome, ReceiverAnswer, Stream};
-use rfc4737::refusal::Refusal;
+use rfc4737::refusal::{NONE, Refusal};
 use rfc4737::{LateTime, Runs};
 use sample::WriteAnswer;
 use textlog::LogLine;
@@ -83,7 +83,7 @@ fn write_line(
     ensures { Output (follow_refusal read refusal (kind ∷ jump ∷ extent ∷ late ∷ []))
         (line_text read (follow_outcome read refusal (kind ∷ jump ∷ extent ∷ late ∷ []))) out.old result out.new }
 {
-    if read.refusal != 0 {
+    if read.refusal != NONE {
         return follow::line_text(read, refused_outcome(read.refusal), out);
     }
     if MAX_32 < refusal {
@@ -122,9 +122,10 @@ pub extern "C" fn krakobran_follow_line(
     ensures back { ReadBack }
 {
     let read = textlog::read_line(line);
-    let written = write_line(read, refusal, noted[0], noted[1], noted[2], noted[3], out);
-    *length = [written.length as u64];
-    written.refusal as u64
+    write_told(
+        write_line(read, refusal, noted[0], noted[1], noted[2], noted[3], out),
+        length,
+    )
 }
 
 // Writes the counts of a receiver, from those numbers of its stream that they are made of.
@@ -158,7 +159,5 @@ pub extern "C" fn krakobran_follow_counts(
         },
         dropped: 0,
     };
-    let written = follow::counts(stream, out);
-    *length = [written.length as u64];
-    written.refusal as u64
+    write_told(follow::counts(stream, out), length)
 }

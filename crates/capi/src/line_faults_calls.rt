@@ -6,7 +6,7 @@ ghost use Rattle.capi.specs.Lines.{fault_number};
 
 use line_faults::{LineFault, line_fault};
 
-// Returns the number of a fault.
+// Returns the number of a fault. A function, and no From, as in figures.rt: the fault and the number are both types of other crates.
 fn fault_number(fault: LineFault) -> u64
     ensures { result ≡ fault_number fault }
 {

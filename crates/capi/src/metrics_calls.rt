@@ -12,6 +12,7 @@ ghost use Rattle.capi.specs.Sample.{write_told};
 ghost use Rattle.capi.specs.Figures.{count_figures, gap_figures, degree_figures, ratios_figures};
 
 use crate::figures::{count_figures, degree_figures, gap_figures, ratios_figures};
+use crate::outcomes::write_told;
 use metrics::TALLY_PLACES;
 
 // Finds the answer for a record, as its row.
@@ -21,8 +22,7 @@ pub extern "C" fn krakobran_answer(file: &[u8], asked: u32, row: &mut [u64; 8]) 
         × (row.new ≡ row_of (record_answer (decode file.now) asked).answer) }
 {
     let found = metrics::answer(file, asked);
-    let answer = found.answer;
-    *row = metrics::row_of(answer);
+    *row = metrics::row_of(found.answer);
     found.refusal as u64
 }
 
@@ -65,8 +65,7 @@ pub extern "C" fn krakobran_counts(file: &[u8], counts: &mut [u64; 7]) -> u64
         × (counts.new ≡ count_figures (sample_counts (decode file.now)).counts) }
 {
     let found = metrics::counts(file);
-    let all = found.counts;
-    *counts = count_figures(all);
+    *counts = count_figures(found.counts);
     found.refusal as u64
 }
 
@@ -89,8 +88,7 @@ pub extern "C" fn krakobran_gap(file: &[u8], asked: u32, gap: &mut [u64; 2]) -> 
         × (gap.new ≡ gap_figures (record_gap (decode file.now) asked).gap) }
 {
     let found = metrics::gap(file, asked);
-    let positions = found.gap;
-    *gap = gap_figures(positions);
+    *gap = gap_figures(found.gap);
     found.refusal as u64
 }
 
@@ -113,8 +111,7 @@ pub extern "C" fn krakobran_degree(file: &[u8], n: u32, degree: &mut [u64; 2]) -
         × (degree.new ≡ degree_figures (sample_degree (decode file.now) n).ratio) }
 {
     let found = metrics::degree(file, n);
-    let ratio = found.ratio;
-    *degree = degree_figures(ratio);
+    *degree = degree_figures(found.ratio);
     found.refusal as u64
 }
 
@@ -125,8 +122,7 @@ pub extern "C" fn krakobran_ratios(file: &[u8], ratios: &mut [u64; 4]) -> u64
         × (ratios.new ≡ ratios_figures (sample_ratios (decode file.now)).ratios) }
 {
     let found = metrics::ratios(file);
-    let all = found.ratios;
-    *ratios = ratios_figures(all);
+    *ratios = ratios_figures(found.ratios);
     found.refusal as u64
 }
 
@@ -135,7 +131,5 @@ pub extern "C" fn krakobran_ratios(file: &[u8], ratios: &mut [u64; 4]) -> u64
 pub extern "C" fn krakobran_report_write(file: &[u8], out: &mut [u8], length: &mut [u64; 1]) -> u64
     ensures { ListedTo (decode file.now) out.old (write_told result length.new) out.new }
 {
-    let written = metrics::listing(file, out);
-    *length = [written.length as u64];
-    written.refusal as u64
+    write_told(metrics::listing(file, out), length)
 }

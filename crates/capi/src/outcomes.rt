@@ -1,6 +1,8 @@
-// The outcome of a step of a receiver or a meter for C: the refusal, and the figures of what is noted of the arrival.
+// Answers for C: the outcome of a step of a receiver or a meter, as the refusal and the figures of what is noted of the arrival; and the
+// answer of a call that writes, as its refusal and a length. Functions, and no From, as in figures.rt: all of these are types of other
+// crates.
 
-ghost use Rattle.std.specs.Prelude.{◌≡◌};
+ghost use Rattle.std.specs.Prelude.{◌≡◌, [], ◌∷◌};
 ghost use Rattle.rfc4737.specs.Numbering.{by_direction};
 ghost use Rattle.receiver.specs.Outcomes.{refused_outcome};
 ghost use Rattle.capi.specs.Outcomes.{late_figures, noted_figures};
@@ -10,6 +12,7 @@ use receiver::{Lateness, Outcome, ReceiverAnswer};
 use rfc4737::numbering::{
     DUPLICATE, IN_ORDER, REORDERED_AFTER, REORDERED_BEFORE, amount, by_direction,
 };
+use sample::WriteAnswer;
 
 // Returns the figures of a reordered packet. Its case is `after` or `before`, by the direction of its late time.
 fn late_figures(after: u32, before: u32, l: Lateness) -> [u64; 4]
@@ -48,9 +51,16 @@ pub fn refusal_of(outcome: Outcome) -> u64
 pub fn outcome_told(outcome: Outcome, figures: &mut [u64; 4]) -> u64
     ensures { (result ≡ outcome.refusal) × (figures.new ≡ noted_figures outcome.noted) }
 {
-    let noted = outcome.noted;
-    *figures = noted_figures(noted);
+    *figures = noted_figures(outcome.noted);
     refusal_of(outcome)
+}
+
+// Returns the refusal of a call that writes, and writes the length of what it wrote to `length`.
+pub fn write_told(written: WriteAnswer, length: &mut [u64; 1]) -> u64
+    ensures { (result ≡ written.refusal) × (length.new ≡ written.length ∷ []) }
+{
+    *length = [written.length as u64];
+    written.refusal as u64
 }
 
 // Returns the outcome of a refused call, which notes nothing.

@@ -4,6 +4,8 @@ ghost use Rattle.owamp.specs.Calls.{RecordsImportedFrom, RecordsWrittenTo};
 ghost use Rattle.capi.specs.Sample.{write_told};
 ghost use Rattle.capi.specs.Imports.{records_told};
 
+use crate::outcomes::write_told;
+
 // Imports OWAMP packet records into lists of numbers and times. `sent` is K.
 #[unsafe(no_mangle)]
 pub extern "C" fn krakobran_owamp_import(
@@ -26,7 +28,5 @@ pub extern "C" fn krakobran_owamp_import(
 pub extern "C" fn krakobran_owamp_write(file: &[u8], out: &mut [u8], length: &mut [u64; 1]) -> u64
     ensures { RecordsWrittenTo file.now out.old (write_told result length.new) out.new }
 {
-    let written = owamp::write(file, out);
-    *length = [written.length as u64];
-    written.refusal as u64
+    write_told(owamp::write(file, out), length)
 }

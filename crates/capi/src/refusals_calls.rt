@@ -6,6 +6,8 @@ ghost use Rattle.refusals.specs.Words.{words_of, asked_refusal};
 ghost use Rattle.capi.specs.Sample.{write_told};
 ghost use Rattle.capi.specs.Version.{version};
 
+use crate::outcomes::write_told;
+
 // The greatest number of a refusal.
 const MAX_REFUSAL: u64 = 18;
 
@@ -29,9 +31,7 @@ pub extern "C" fn krakobran_refusal_words(
     ensures { Output (asked_refusal refusal) (words_of refusal) out.old (write_told result length.new)
         out.new }
 {
-    let written = refusals::words(narrow(refusal), out);
-    *length = [written.length as u64];
-    written.refusal as u64
+    write_told(refusals::words(narrow(refusal), out), length)
 }
 
 // Returns the version of the library: 1,000,000 for each major version, 1,000 for each minor one, and the patch.

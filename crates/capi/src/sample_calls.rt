@@ -6,8 +6,9 @@ ghost use Rattle.sample.specs.Decode.{decode, decoded_refusal, layout_of};
 ghost use Rattle.sample.specs.Calls.{ReadFrom, WrittenTo};
 ghost use Rattle.capi.specs.Sample.{layout_figures, layout_told, label_part, label_figures, write_told};
 
+use crate::outcomes::write_told;
 use rfc4737::judge::check_lists;
-use rfc4737::refusal::number_in;
+use rfc4737::refusal::{NONE, number_in};
 use sample::Layout;
 
 // The offset and the length of the label in a file, and the file's refusal (0 for none). If it is refused, both are 0. The
@@ -35,7 +36,7 @@ pub fn label_part(file: &[u8]) -> LabelPart
     ensures { result ≡ label_part (decode file.now) }
 {
     let layout = sample::check(file);
-    if layout.refusal != 0 {
+    if layout.refusal != NONE {
         return LabelPart {
             refusal: layout.refusal,
             start: 0,
@@ -43,7 +44,7 @@ pub fn label_part(file: &[u8]) -> LabelPart
         };
     }
     LabelPart {
-        refusal: 0,
+        refusal: NONE,
         start: 2,
         length: layout.label,
     }
@@ -101,9 +102,7 @@ pub extern "C" fn krakobran_sample_write(
     ensures { WrittenTo label.now sizes.now numbers.now times.now out.old
         (write_told result length.new) out.new }
 {
-    let written = sample::write(label, sizes, numbers, times, out);
-    *length = [written.length as u64];
-    written.refusal as u64
+    write_told(sample::write(label, sizes, numbers, times, out), length)
 }
 
 // Returns the first refusal that applies to K and lists, as `krakobran_sample_write` does.

@@ -6,14 +6,14 @@ ghost use Rattle.summary.specs.Json.{SummaryJsonTo, LabelTo};
 ghost use Rattle.summary.specs.All.{AllTo};
 ghost use Rattle.capi.specs.Sample.{write_told};
 
+use crate::outcomes::write_told;
+
 // Writes the summary of a sample.
 #[unsafe(no_mangle)]
 pub extern "C" fn krakobran_summary_write(file: &[u8], out: &mut [u8], length: &mut [u64; 1]) -> u64
     ensures { SummaryTo (decode file.now) out.old (write_told result length.new) out.new }
 {
-    let written = summary::write(file, out);
-    *length = [written.length as u64];
-    written.refusal as u64
+    write_told(summary::write(file, out), length)
 }
 
 // Writes the summary of a sample as one JSON object and a line feed.
@@ -21,9 +21,7 @@ pub extern "C" fn krakobran_summary_write(file: &[u8], out: &mut [u8], length: &
 pub extern "C" fn krakobran_summary_json(file: &[u8], out: &mut [u8], length: &mut [u64; 1]) -> u64
     ensures { SummaryJsonTo (decode file.now) out.old (write_told result length.new) out.new }
 {
-    let written = summary::write_json(file, out);
-    *length = [written.length as u64];
-    written.refusal as u64
+    write_told(summary::write_json(file, out), length)
 }
 
 // Writes the summary of a sample, and the other figures of the whole sample.
@@ -31,9 +29,7 @@ pub extern "C" fn krakobran_summary_json(file: &[u8], out: &mut [u8], length: &m
 pub extern "C" fn krakobran_summary_all(file: &[u8], out: &mut [u8], length: &mut [u64; 1]) -> u64
     ensures { AllTo (decode file.now) out.old (write_told result length.new) out.new }
 {
-    let written = summary::write_all(file, out);
-    *length = [written.length as u64];
-    written.refusal as u64
+    write_told(summary::write_all(file, out), length)
 }
 
 // Writes a label as the first member of a JSON object.
@@ -41,7 +37,5 @@ pub extern "C" fn krakobran_summary_all(file: &[u8], out: &mut [u8], length: &mu
 pub extern "C" fn krakobran_label_json(label: &[u8], out: &mut [u8], length: &mut [u64; 1]) -> u64
     ensures { LabelTo label.now out.old (write_told result length.new) out.new }
 {
-    let written = summary::write_json_label(label, out);
-    *length = [written.length as u64];
-    written.refusal as u64
+    write_told(summary::write_json_label(label, out), length)
 }

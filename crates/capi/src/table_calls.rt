@@ -5,6 +5,8 @@ ghost use Rattle.sample.specs.Decode.{decode};
 ghost use Rattle.table.specs.Text.{PartTo};
 ghost use Rattle.capi.specs.Sample.{write_told};
 
+use crate::outcomes::write_told;
+
 // Writes a part of the table as comma-separated values.
 #[unsafe(no_mangle)]
 pub extern "C" fn krakobran_table_csv(
@@ -16,9 +18,7 @@ pub extern "C" fn krakobran_table_csv(
     ensures { PartTo false (decode file.now) part out.old (write_told result length.new)
         out.new }
 {
-    let written = table::write_csv(file, part, out);
-    *length = [written.length as u64];
-    written.refusal as u64
+    write_told(table::write_csv(file, part, out), length)
 }
 
 // Writes a part of the table as one JSON object.
@@ -32,7 +32,5 @@ pub extern "C" fn krakobran_table_json(
     ensures { PartTo true (decode file.now) part out.old (write_told result length.new)
         out.new }
 {
-    let written = table::write_json(file, part, out);
-    *length = [written.length as u64];
-    written.refusal as u64
+    write_told(table::write_json(file, part, out), length)
 }

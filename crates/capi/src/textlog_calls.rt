@@ -6,6 +6,8 @@ ghost use Rattle.textlog.specs.Calls.{LogImportedFrom, LogWrittenTo, log_line};
 ghost use Rattle.capi.specs.Sample.{write_told};
 ghost use Rattle.capi.specs.Imports.{log_told, line_told};
 
+use crate::outcomes::write_told;
+
 // Imports a text log into lists of numbers and times. `sent` is K.
 #[unsafe(no_mangle)]
 pub extern "C" fn krakobran_log_import(
@@ -53,7 +55,5 @@ pub extern "C" fn krakobran_log_write(
     ensures { LogWrittenTo sent numbers.now times.now out.old
         (write_told result length.new) out.new }
 {
-    let written = textlog::write(sent, numbers, times, out);
-    *length = [written.length as u64];
-    written.refusal as u64
+    write_told(textlog::write(sent, numbers, times, out), length)
 }

@@ -38,7 +38,6 @@ pub extern "C" fn krakobran_worse(first: &[u8], second: &[u8], worse: &mut [u64;
         × (worse.new ≡ worse_figures (decode first.now) (decode second.now)) }
 {
     let comparison = compare(first, second);
-    let link = comparison.link;
-    *worse = link_figures(link, first, second);
+    *worse = link_figures(comparison.link, first, second);
     comparison.refusal as u64
 }

@@ -16,6 +16,7 @@ pub(crate) fn put_log(file: &[u8], out: &mut [u8]) -> WriteAnswer
     let mut numbers = [0u32; LIST_LEN];
     let mut times = [0u64; LIST_LEN];
     let layout = sample::read(file, &mut sizes, &mut numbers, &mut times);
+    // `sample::read` answers with the number of the refusal, as `ReadFrom` and C have it, so no `?` stands here.
     if layout.refusal != 0 {
         return WriteAnswer {
             refusal: layout.refusal,

@@ -71,9 +71,7 @@ fn end_line(rt: &(impl Print + Eprint), progress: &mut Progress) -> Result<(), E
 
 // Takes one octet, and holds it if there is room for it. A line feed ends the line.
 fn take_octet(rt: &(impl Print + Eprint), progress: &mut Progress, octet: u8) -> Result<(), End> {
-    if progress.held.octets().len() < HELD_OCTETS {
-        progress.held.octet(octet);
-    }
+    progress.held.octet(octet);
     if octet == b'\n' {
         end_line(rt, progress)?;
     }

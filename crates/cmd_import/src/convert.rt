@@ -10,7 +10,8 @@ use textlog::LogImport;
 // The length of each list: a sample has at most 4,096 packets and as many arrivals.
 const LIST_LEN: usize = ARRIVALS_MOST as usize;
 
-// The kind of input.
+// The kind of input. It is an enum, and no closure that reads it: `ImportedTo` and `input_refusal` name the kind, and it also picks the call
+// that finds the refused line.
 #[derive(Clone, Copy)]
 pub(crate) enum Kind {
     // A text log.
@@ -45,6 +46,7 @@ fn import_lists(
         Kind::Log8 => shortlog::import_8(input, k, numbers, times),
         Kind::Log10 => shortlog::import_10(input, k, numbers, times),
         Kind::Records => {
+            // No `From`: both structs are other crates' types.
             let records = owamp::import(input, k, numbers, times);
             LogImport {
                 refusal: records.refusal,

@@ -1,4 +1,5 @@
-// Explains why a line of a text log is refused with 14: what stands where the form breaks. The public call is total.
+// Explains why a line of a text log is refused with 14: what stands where the form breaks. The public call is total. The private
+// functions take the line and an offset, and no struct of both, since the definitions that they name take the line and the offset.
 #![tactic(auto)]
 
 ghost use Rattle.std.specs.Prelude.{◌≡◌};
@@ -24,7 +25,7 @@ pub enum LineFault {
 }
 
 // The octet of a carriage return.
-const CARRIAGE_RETURN: u8 = 13;
+const CARRIAGE_RETURN: u8 = b'\r';
 
 // Whether a line begins with the byte order mark of UTF-8: the octets EF, BB, BF.
 #[tactic(auto, unfolding(crate::specs::Faults::has_byte_order_mark))]

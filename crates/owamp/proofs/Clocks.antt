@@ -1,7 +1,7 @@
--- The clock. Quotient and remainder of stamp * 10^6 by 2^32 are the microseconds and what rounding takes off. Seconds and fraction,
--- multiplied apart, give the same quotient, which rises with the stamp: all by arithmetic. If no time of a list is before its first, t,
--- the first is the smallest in microseconds, by induction on the list l. Assumes nothing.
-use Prim.Native.Nat.{ℕ, ◌+◌, ◌*◌, ◌/◌, ◌%◌, ◌≤◌, min}
+-- The clock. Quotient and remainder of stamp * 10^6 by 2^32 are the microseconds and what rounding takes off, and the quotient rises with
+-- the stamp: all by arithmetic. If no time of a list is before its first, t, the first is the smallest in microseconds, by induction on
+-- the list l. Assumes nothing.
+use Prim.Native.Nat.{ℕ, ◌≤◌, min}
 use native.Mathlib.Omega.{arith}
 use mathlib.Core.List.{List, [], ◌∷◌, foldl, map}
 use mathlib.Core.Path.{◌≡◌, refl, ap, ◌∙◌}
@@ -9,17 +9,12 @@ use Rattle.rfc4737.specs.declared.Arrival.{Arrival}
 use Rattle.rfc4737.specs.Judge.{times_of}
 use Rattle.merging.specs.Order.{NotBelow}
 use Rattle.owamp.specs.Order.{time_of, NotBack}
-use Rattle.owamp.specs.Clock.{fractions, micros, microseconds, taken_off, Distance, smallest}
+use Rattle.owamp.specs.Clock.{microseconds, taken_off, Distance, smallest}
 
 -- the distance from the exact time
 pub distance : (stamp : ℕ) → Distance stamp
 unfolding microseconds taken_off
 distance stamp = record { exact = omega arith; under = omega arith }
-
--- by seconds and fractions
-pub by-halves : (stamp : ℕ) → stamp / fractions * micros + stamp % fractions * micros / fractions ≡ microseconds stamp
-unfolding microseconds
-by-halves stamp = omega arith
 
 -- a time that is not before another is not before it in microseconds
 pub micro-rising : (s t : ℕ) → s ≤ t → microseconds s ≤ microseconds t

@@ -14,9 +14,6 @@ use rfc4737::refusal::Refusal;
 use rfc4737::time::next_reference;
 use sample::Layout;
 
-// The greatest number of 32 bits.
-const SECONDS_MOST: u64 = 4_294_967_295;
-
 // The result of a pass over records: the number of arrivals, and whether the number of one is outside 1 to K.
 #[derive(Clone, Copy)]
 struct Judged {
@@ -69,7 +66,7 @@ pub(crate) fn check_records(records: &[u8], k: u32) -> Result<usize, Refusal>
 fn judge_time(time: u64) -> Result<(), Refusal>
     ensures { refusal_in result ≡ judge_time time }
 {
-    if SECONDS_MOST < seconds_of(time) {
+    if u32::try_from(seconds_of(time)).is_err() {
         return Err(Refusal::SecondsOver);
     }
     Ok(())

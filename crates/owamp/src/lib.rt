@@ -120,6 +120,7 @@ pub fn write(file: &[u8], out: &mut [u8]) -> WriteAnswer
     ensures cases { RecordsWrittenAsGiven }
 {
     let layout = sample::check(file);
+    // `sample::check` gives C's layout, whose refusal is a number.
     if layout.refusal != NONE {
         return WriteAnswer {
             refusal: layout.refusal,

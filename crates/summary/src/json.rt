@@ -1,6 +1,6 @@
 // Writes the summary as one JSON object. Its functions stand beside those of `lines`, since each form has its own definitions, members
 // and room; what both write alike is in `parts`.
-ghost use Rattle.std.specs.Prelude.{◌≡◌, ◌+◌, ◌*◌, ◌≤◌, ◌++◌, cond, ◌||◌, eqb, length};
+ghost use Rattle.std.specs.Prelude.{◌≡◌, ◌+◌, ◌*◌, ◌<◌, ◌≤◌, ◌++◌, cond, ◌||◌, eqb, length};
 ghost use Rattle.octets.specs.Text.{ascii};
 ghost use Rattle.sample.specs.Decode.{decode};
 ghost use Rattle.metrics.specs.Sample.{answers_of};
@@ -11,6 +11,7 @@ ghost use Rattle.summary.specs.Json.{label_octets, quote, backslash, escaped_oct
 
 use crate::figures::{Figures, Sizes, figures_of, sizes_for};
 use crate::parts::{Summary, write_ratio};
+use crate::{LABEL_MOST, LABEL_OCTETS};
 use sample::Layout;
 use writing::Text;
 
@@ -81,9 +82,9 @@ fn write_flag(out: &mut Summary, name: &[u8], flag: bool)
     write_bool(out, flag);
 }
 
-// Writes the start of the object and a label of at most 64 octets. It needs room for 139 octets.
+// Writes the start of the object and a label of at most 64 octets, which have room.
 #[tactic(auto, unfolding(crate::specs::Json::label_member))]
-pub fn write_label_member<const N: usize>(out: &mut Text<N>, label: &[u8])
+pub(crate) fn put_label_member<const N: usize>(out: &mut Text<N>, label: &[u8])
     requires { (length label.now ≤ label_most) × (length out.old + label_octets ≤ N) }
     ensures written { out.new ≡ out.old ++ label_member label.now }
     ensures room { length out.new ≤ length out.old + label_octets }
@@ -91,6 +92,18 @@ pub fn write_label_member<const N: usize>(out: &mut Text<N>, label: &[u8])
     out.word(b"{\"label\":\"");
     write_label(out, label);
     out.word(b"\"");
+}
+
+// Writes the start of the object and a label of at most 64 octets, if there is room for 139 octets. Else it writes nothing.
+pub fn write_label_member<const N: usize>(out: &mut Text<N>, label: &[u8])
+    ensures written { length label.now ≤ label_most → length out.old + label_octets ≤ N → out.new ≡ out.old ++ label_member label.now }
+    ensures long { label_most < length label.now → out.new ≡ out.old }
+    ensures full { N < length out.old + label_octets → out.new ≡ out.old }
+    ensures room { length out.new ≤ length out.old + label_octets }
+{
+    if label.len() <= LABEL_MOST && LABEL_OCTETS <= N && out.octets().len() <= N - LABEL_OCTETS {
+        put_label_member(out, label);
+    }
 }
 
 // Writes the counts.
@@ -219,7 +232,7 @@ pub(crate) fn object_of(file: &[u8], layout: Layout) -> Summary
 {
     let figures = figures_of(file, layout);
     let mut out = Summary::new();
-    write_label_member(&mut out, sample::label(file));
+    put_label_member(&mut out, sample::label(file));
     write_counts(&mut out, figures);
     write_needs(&mut out, file);
     write_limits(&mut out, figures);

@@ -18,8 +18,8 @@ mod lines;
 mod parts;
 
 use all::{Others, degrees_of};
-use json::object_of;
 pub use json::write_label_member;
+use json::{object_of, put_label_member};
 use lines::text_of;
 use rfc4737::judge::ARRIVALS_MOST;
 use rfc4737::refusal::{NONE, Refusal};
@@ -70,7 +70,7 @@ pub fn write_json_label(label: &[u8], out: &mut [u8]) -> WriteAnswer
         return WriteAnswer::from(Err(Refusal::LongLabel));
     }
     let mut text = Text::<LABEL_OCTETS>::new();
-    write_label_member(&mut text, label);
+    put_label_member(&mut text, label);
     hand_over(NONE, text.octets(), out)
 }
 

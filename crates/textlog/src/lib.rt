@@ -228,11 +228,7 @@ fn whole_line(line: &[u8]) -> Option<ReadLine>
     ensures read { read_whole (length line.now) result ≡ decode_line line.now }
     ensures ends { IfSome result (λ read. read.end ≡ length line.now) }
 {
-    let read = line_at(line, 0)?;
-    if read.end != line.len() {
-        return None;
-    }
-    Some(read)
+    line_at(line, 0).filter(|read| read.end == line.len())
 }
 
 // Reads one line by itself, with the line feed that ends it.

@@ -1,5 +1,5 @@
-// Reads a line of a text log; `None` stands for a malformed one. Crate `decimal` reads the digits, so a number may have any number of them. The public functions, which other
-// crates use to look at a line, are total.
+// Reads a line of a text log; `None` stands for a malformed one. Crate `decimal` reads the digits, so a number may have any number of
+// them. The public functions, which other crates use to look at a line, are total.
 ghost use Rattle.std.specs.Prelude.{◌≡◌, ◌+◌, ◌*◌, ◌^◌, ◌-◌, ◌≤◌, ◌<◌, get_or, drop};
 ghost use Rattle.textlog.specs.Decode.{is_decimal_mark, in_range, fraction_in, time_in, line_in};
 
@@ -62,13 +62,7 @@ fn fraction_at(log: &[u8], at: usize, number: u32, whole: u64) -> Option<ReadLin
     let digits = number_at(log, at);
     let end = digits.end;
     let count = end - at;
-    if count == 0 {
-        return None;
-    }
-    if DECIMALS_MOST < count {
-        return None;
-    }
-    if octet_at(log, end) != b'\n' {
+    if count == 0 || DECIMALS_MOST < count || octet_at(log, end) != b'\n' {
         return None;
     }
     in_range(number, whole, thousandths(digits.value, count), end + 1)
@@ -102,12 +96,11 @@ pub fn line_at(log: &[u8], at: usize) -> Option<ReadLine>
     if end == at {
         return None;
     }
-    let number = digits.value;
-    if NUMBER_MOST < number {
+    let Ok(number) = u32::try_from(digits.value) else {
         return None;
-    }
+    };
     if octet_at(log, end) != b';' {
         return None;
     }
-    time_at(log, end + 1, number as u32)
+    time_at(log, end + 1, number)
 }

@@ -38,8 +38,7 @@ fn put_line(out: &mut [u8], at: usize, number: u32, time: u64) -> usize
         × (out.new ≡ put at (arrival_line (record { number = number; time = time })) out.old) }
 {
     let first = at + decimal::put_decimal(out, at, number as u64);
-    let semicolon = [b';'];
-    octets::put_octets(out, first, &semicolon);
+    octets::put_octets(out, first, b";");
     let second = first + 1;
     let third = second + decimal::put_decimal(out, second, time / 1000);
     let rest = time % 1000;

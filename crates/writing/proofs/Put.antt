@@ -5,7 +5,7 @@ use Prim.Native.Nat.{ℕ, ◌+◌, ◌≤◌}
 use native.Mathlib.Omega.{arith}
 use mathlib.Core.Path.{◌≡◌, refl, sym, ap, subst, ◌∙◌}
 use mathlib.Core.List.{List, [], ◌++◌}
-use lib.ListN.{length, take, length-append}
+use lib.ListN.{length, length-append}
 use Rattle.octets.specs.Memory.{over, put, splice}
 use Rattle.octets.proofs.Memory.{splice-nil, splice-next, over-splice, put-room, put-length}
 use Rattle.writing.specs.Put.{Put}

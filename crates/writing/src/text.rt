@@ -1,5 +1,5 @@
 // A text that is written part by part. It has room for N octets.
-ghost use Rattle.std.specs.Prelude.{◌≡◌, ◌+◌, ◌≤◌, List, [], ◌∷◌, ◌++◌, length, take};
+ghost use Rattle.std.specs.Prelude.{◌≡◌, ◌+◌, ◌≤◌, ◌<◌, List, [], ◌∷◌, ◌++◌, length, take};
 ghost use Rattle.decimal.specs.Decimal.{decimal_of};
 ghost use Rattle.listing.specs.Lines.{late_time};
 ghost use Rattle.writing.specs.Numbers.{between};
@@ -49,17 +49,73 @@ impl<const N: usize> Text<N> {
         &self.octets[..self.len]
     }
 
-    // Writes an octet.
+    // Writes an octet, if there is room for it.
     pub fn octet(&mut self, octet: u8)
-        requires { length self.old + 1 ≤ N }
-        ensures { self.new ≡ self.old ++ octet ∷ [] }
+        ensures written { length self.old + 1 ≤ N → self.new ≡ self.old ++ octet ∷ [] }
+        ensures full { N < length self.old + 1 → self.new ≡ self.old }
     {
-        self.octets[self.len] = octet;
-        self.len += 1;
+        if self.len < N {
+            self.octets[self.len] = octet;
+            self.len += 1;
+        }
     }
 
-    // Writes a word.
+    // Writes a word, if there is room for it.
     pub fn word(&mut self, word: &[u8])
+        ensures written { length self.old + length word.now ≤ N → self.new ≡ self.old ++ word.now }
+        ensures full { N < length self.old + length word.now → self.new ≡ self.old }
+    {
+        if word.len() <= N - self.len {
+            self.put_word(word);
+        }
+    }
+
+    // Writes a number in decimal, if there is room for 20 digits.
+    pub fn number(&mut self, v: u64)
+        ensures written { length self.old + 20 ≤ N → self.new ≡ self.old ++ decimal_of v }
+        ensures full { N < length self.old + 20 → self.new ≡ self.old }
+        ensures room { length self.new ≤ length self.old + 20 }
+    {
+        if 20 <= N - self.len {
+            self.put_number(v);
+        }
+    }
+
+    // Writes a number between two words, if there is room for both and 20 digits.
+    pub fn between(&mut self, before: &[u8], v: u64, after: &[u8])
+        ensures written { length self.old + (length before.now + (20 + length after.now)) ≤ N → self.new ≡ self.old ++ between before.now v after.now }
+        ensures full { N < length self.old + (length before.now + (20 + length after.now)) → self.new ≡ self.old }
+        ensures room { length self.new ≤ length self.old + (length before.now + (20 + length after.now)) }
+    {
+        let room = N - self.len;
+        if 20 <= room && before.len() <= room - 20 && after.len() <= room - 20 - before.len() {
+            self.put_word(before);
+            self.put_number(v);
+            self.put_word(after);
+        }
+    }
+
+    // Writes a late time, if there is room for 21 octets: its amount, after a minus if it is before and not 0.
+    #[tactic(auto, unfolding(listing::specs::Lines::late_time))]
+    pub fn late_time(&mut self, late: LateTime)
+        ensures written { length self.old + 21 ≤ N → self.new ≡ self.old ++ late_time late }
+        ensures full { N < length self.old + 21 → self.new ≡ self.old }
+        ensures room { length self.new ≤ length self.old + 21 }
+    {
+        if N - self.len < 21 {
+            return;
+        }
+        match late {
+            LateTime::Before(t) if 0 < t => {
+                self.put_word(b"-");
+                self.put_number(t);
+            }
+            LateTime::Before(t) | LateTime::After(t) => self.put_number(t),
+        }
+    }
+
+    // Writes a word that has room.
+    fn put_word(&mut self, word: &[u8])
         requires { length self.old + length word.now ≤ N }
         ensures { self.new ≡ self.old ++ word.now }
     {
@@ -67,40 +123,13 @@ impl<const N: usize> Text<N> {
         self.len += word.len();
     }
 
-    // Writes a number in decimal.
-    pub fn number(&mut self, v: u64)
+    // Writes a number that has room.
+    fn put_number(&mut self, v: u64)
         requires { length self.old + 20 ≤ N }
         ensures written { self.new ≡ self.old ++ decimal_of v }
         ensures room { length self.new ≤ length self.old + 20 }
     {
         let digits = decimal::put_decimal(&mut self.octets, self.len, v);
         self.len += digits;
-    }
-
-    // Writes a number between two words.
-    pub fn between(&mut self, before: &[u8], v: u64, after: &[u8])
-        requires { length self.old + (length before.now + (20 + length after.now)) ≤ N }
-        ensures written { self.new ≡ self.old ++ between before.now v after.now }
-        ensures room { length self.new ≤ length self.old + (length before.now + (20 + length after.now)) }
-    {
-        self.word(before);
-        self.number(v);
-        self.word(after);
-    }
-
-    // Writes a late time: its amount, after a minus if it is before and not 0.
-    #[tactic(auto, unfolding(listing::specs::Lines::late_time))]
-    pub fn late_time(&mut self, late: LateTime)
-        requires { length self.old + 21 ≤ N }
-        ensures written { self.new ≡ self.old ++ late_time late }
-        ensures room { length self.new ≤ length self.old + 21 }
-    {
-        match late {
-            LateTime::Before(t) if 0 < t => {
-                self.word(b"-");
-                self.number(t);
-            }
-            LateTime::Before(t) | LateTime::After(t) => self.number(t),
-        }
     }
 }

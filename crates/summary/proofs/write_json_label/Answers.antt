@@ -25,5 +25,5 @@ returns-clause-label_to c =
     let none : 0 ≡ judge_label (length label) =
     sym (ap (λ (b : Bool). refusal_if b long_label) (not-outside 0 64 _ (omega arith) c.if-label-gt-LABEL_MOST.false)) in
     let text : c.octets.result.now ≡ label_member label =
-    simp (c.octets.ensures, c.write_label_member.ensures.written, c.new-text.ensures) in
-    output-of none text c.hand_over.ensures
+    simp (c.octets.ensures, c.put_label_member.ensures.written, c.new-text.ensures) in
+    output-of none text (c.hand_over.ensures.written (omega (arith, ap length c.octets.ensures, c.put_label_member.ensures.room, ap length c.new-text.ensures)))

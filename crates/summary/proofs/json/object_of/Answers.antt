@@ -3,7 +3,7 @@ use Rattle.std.proofs.Common.{length, ap, arith}
 use Rattle.summary.proofs.Escapes.{label-short}
 use Rattle.summary.proofs.json.object_of.Goals as goal
 
-pub write_label_member-requires : goal.write_label_member-requires
-write_label_member-requires c =
+pub put_label_member-requires : goal.put_label_member-requires
+put_label_member-requires c =
     let short = label-short c.args.file.now (λ i. (c.type_inv.file i).fits) in
     (omega arith, (omega (arith, ap length c.label.ensures.0, short), omega (arith, ap length c.new-out.ensures)))

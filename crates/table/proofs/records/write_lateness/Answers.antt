@@ -1,6 +1,6 @@
 -- `table::records::write_lateness` meets its contract: the pieces are written one after the other, with the figures of the row. Assumes
 -- nothing.
-use Rattle.std.proofs.Common.{◌≡◌, ℕ, List, get_or, ap, append_assoc}
+use Rattle.std.proofs.Common.{◌≡◌, ℕ, List, get_or, ap, append_assoc, arith}
 use mathlib.Core.List.{append-nil}
 use Rattle.metrics.specs.Rows.{row_of}
 use Rattle.table.specs.Private.Pieces.{lateness_pieces}
@@ -15,7 +15,7 @@ returns-clause-written c =
     let extent : get_or row 3 0 ≡ f.extent = ap (λ (l : List ℕ). get_or l 3 0) h in
     let late = c.late_in.ensures f.late (ap (λ (l : List ℕ). get_or l 0 0) h) (ap (λ (l : List ℕ). get_or l 4 0) h) in
     simp (
-      c.late_time.ensures.written,
+      c.late_time.ensures.written (omega arith),
       late,
       c.write_either.ensures.written,
       c.write_value-2.ensures.written,

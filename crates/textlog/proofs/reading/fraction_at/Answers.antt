@@ -2,25 +2,20 @@
 use Rattle.std.proofs.Common.{sym, ◌∙◌, arith}
 use Rattle.textlog.proofs.LinesAtPlaces.{fraction-none, fraction-many, fraction-other, small, fraction-ends}
 use Rattle.textlog.proofs.reading.fraction_at.Goals as goal
+use Rattle.textlog.proofs.reading.fraction_at.Goals.{then-count-eq0-via-then-count-eq0, then-count-eq0-via-else-count-eq0+then-count-gt-DECIMALS_MOST, then-count-eq0-via-else-count-eq0+else-count-gt-DECIMALS_MOST+then-octet_at-ne10}
 
 pub returns-then-count-eq0 : goal.returns-then-count-eq0
 returns-then-count-eq0 c =
     let a = c.args in
     let r = c.number_at-digits in
-    fraction-none a.log.now a.at r.result r.ensures.value a.number a.whole c.if-count-eq0.true
-
-pub returns-then-count-gt-DECIMALS_MOST : goal.returns-then-count-gt-DECIMALS_MOST
-returns-then-count-gt-DECIMALS_MOST c =
-    let a = c.args in
-    let r = c.number_at-digits in
-    fraction-many a.log.now a.at r.result r.ensures.value a.number a.whole c.if-count-gt-DECIMALS_MOST.true
-
-pub returns-then-octet_at-ne10 : goal.returns-then-octet_at-ne10
-returns-then-octet_at-ne10 c =
-    let a = c.args in
-    let r = c.number_at-digits in
-    fraction-other a.log.now a.at r.result r.ensures.value a.number a.whole c.if-count-eq0.false c.if-count-gt-DECIMALS_MOST.false
-    (λ o. c.if-octet_at-ne10.true (c.octet_at.ensures ∙ o))
+    elim c.then-count-eq0.branch [
+      | then-count-eq0-via-then-count-eq0 w ↦ fraction-none a.log.now a.at r.result r.ensures.value a.number a.whole w.if-count-eq0.true
+      | then-count-eq0-via-else-count-eq0+then-count-gt-DECIMALS_MOST w ↦
+          fraction-many a.log.now a.at r.result r.ensures.value a.number a.whole w.if-count-gt-DECIMALS_MOST.true
+      | then-count-eq0-via-else-count-eq0+else-count-gt-DECIMALS_MOST+then-octet_at-ne10 w ↦
+          fraction-other a.log.now a.at r.result r.ensures.value a.number a.whole w.if-count-eq0.false w.if-count-gt-DECIMALS_MOST.false
+          (λ o. w.if-octet_at-ne10.true (w.octet_at.ensures ∙ o))
+    ]
 
 pub thousandths-requires : goal.thousandths-requires
 thousandths-requires c =
