@@ -1,5 +1,5 @@
 // Checks K and the arrivals. Files, text logs and lists share these functions.
-ghost use Rattle.std.specs.Prelude.{◌≡◌, length, IfOk};
+ghost use Rattle.std.specs.Prelude.{◌≡◌, length};
 ghost use Rattle.rfc4737.specs.Refusals.{outside};
 ghost use Rattle.rfc4737.specs.Refused.{refusal_in};
 ghost use Rattle.rfc4737.specs.Times.{next_reference};
@@ -36,18 +36,30 @@ pub fn judge_one(k: u64, reference: u64, number: u64, time: u64) -> Result<(), R
     Ok(())
 }
 
-// Judges the next of several arrivals; returns the reference for the time of the one after it. Most arrivals have a number in 1 to K and
-// a time that does not go back, and take two tests; all others go to `judge_one`.
+// The judgement of one arrival: its refusal, and the reference for the time of the next arrival, also where it is refused.
+#[derive(Clone, Copy)]
+pub struct Judged {
+    pub refusal: Result<(), Refusal>,
+    pub reference: u64,
+}
+
+// Judges the next of several arrivals. Most arrivals have a number in 1 to K and a time that does not go back, and take two tests; all
+// others go to `judge_one`.
 #[tactic(auto, using(crate::proofs::Judged::judge_one_by_tests), unfolding(crate::specs::Times::too_early, crate::specs::Times::next_reference))]
-pub fn judge_next(k: u64, reference: u64, number: u64, time: u64) -> Result<u64, Refusal>
-    ensures refusal { refusal_in result ≡ judge_one k reference (record { number = number; time = time }) }
-    ensures next { IfOk result (λ r. r ≡ next_reference reference time) }
+pub fn judge_next(k: u64, reference: u64, number: u64, time: u64) -> Judged
+    ensures refusal { refusal_in result.refusal ≡ judge_one k reference (record { number = number; time = time }) }
+    ensures next { result.reference ≡ next_reference reference time }
 {
     if reference <= time && !outside(1, k, number) {
-        return Ok(time);
+        return Judged {
+            refusal: Ok(()),
+            reference: time,
+        };
     }
-    judge_one(k, reference, number, time)?;
-    Ok(next_reference(reference, time))
+    Judged {
+        refusal: judge_one(k, reference, number, time),
+        reference: next_reference(reference, time),
+    }
 }
 
 // Judges the arrivals of two lists in turn.
@@ -57,7 +69,9 @@ fn judge_lists(k: u64, numbers: &[u32], times: &[u64]) -> Result<(), Refusal>
 {
     let mut reference = 0;
     for (number, time) in numbers.iter().zip(times) {
-        reference = judge_next(k, reference, *number as u64, *time)?;
+        let judged = judge_next(k, reference, *number as u64, *time);
+        judged.refusal?;
+        reference = judged.reference;
     }
     Ok(())
 }

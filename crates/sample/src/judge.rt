@@ -34,7 +34,9 @@ pub(crate) fn judge_file(file: &[u8], at: usize, sent: u64, count: usize) -> Res
     let mut reference = 0;
     for twelve in items.chunks_exact(ARRIVAL_WIDTH) {
         let arrival = arrival_of(twelve);
-        reference = judge_next(sent, reference, u64::from(arrival.number), arrival.time)?;
+        let judged = judge_next(sent, reference, u64::from(arrival.number), arrival.time);
+        judged.refusal?;
+        reference = judged.reference;
     }
     Ok(())
 }

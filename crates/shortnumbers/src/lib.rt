@@ -68,7 +68,9 @@ fn judge_found(range: u32, k: u64, shorts: &[u16], times: &[u64]) -> Result<(), 
     let mut reference = 0;
     for (i, short) in shorts.iter().enumerate() {
         let number = finder.find(*short);
-        reference = judge_next(k, reference, number as u64, times[i])?;
+        let judged = judge_next(k, reference, number as u64, times[i]);
+        judged.refusal?;
+        reference = judged.reference;
     }
     Ok(())
 }

@@ -111,10 +111,11 @@ fn judge_lines<N: Numbers>(log: &[u8], k: u32) -> Result<u32, LogRefusal>
             return Err(refused_after(count, Refusal::ManyArrivals));
         }
         let number = N::full_number(greatest, line.number);
-        reference = match judge_next(k as u64, reference, number as u64, line.time) {
-            Ok(next) => next,
-            Err(refusal) => return Err(refused_after(count, refusal)),
-        };
+        let judged = judge_next(k as u64, reference, number as u64, line.time);
+        if let Err(refusal) = judged.refusal {
+            return Err(refused_after(count, refusal));
+        }
+        reference = judged.reference;
         greatest = next_greatest(greatest, number);
         at = line.end;
         count += 1;

@@ -15,8 +15,8 @@ pub loop-i-init : goal.loop-i-init
 unfolding greatest_of
 loop-i-init c = record { range = refl; few = omega arith; greatest = refl; judged = refl }
 
-pub returns-in_err-reference : goal.returns-in_err-reference
-returns-in_err-reference c =
+pub returns-in_err-judged : goal.returns-in_err-judged
+returns-in_err-judged c =
     let p = err_from_is_err_and c.from_residual.result c.from_residual.ensures.1 in
     let i = c.loop-i.invariant in
     let lt : c.loop-i.i < length c.args.shorts.now = c.loop-i-test.true in
@@ -26,7 +26,7 @@ returns-in_err-reference c =
     (judge-stop _ (arrivals_from (numbers_found c.args.range c.args.shorts.now) c.args.times.now) c.loop-i.reference c.loop-i.i none _
     (omega arith)
     (arrival-here _ _ _ _ _ lt i.greatest (rw i.range at c.find-number.ensures.number) _ c.requires.2)
-    i.judged _ c.in_err-reference.ensures.refusal (λ z. omega (arith, number-above c.in_err-reference.field-0.0)))
+    i.judged _ (rw c.in_err-judged.was at c.judge_next-judged.ensures.refusal) (λ z. omega (arith, number-above c.in_err-judged.field-0.0)))
 
 pub loop-i-preserved : goal.loop-i-preserved
 loop-i-preserved c =
@@ -41,8 +41,8 @@ loop-i-preserved c =
       few = omega (arith, g, c.find-number.ensures.near, i.few);
       greatest = greatest-next _ _ _ _ _ lt i.greatest e _ g;
       judged = judge-next _ arrivals c.loop-i.reference c.loop-i.i none _ (omega arith)
-          (arrival-here _ _ _ _ _ lt i.greatest e _ c.requires.2) i.judged _ c.in_ok-reference.ensures.refusal refl
-          ∙ ap (λ (r : ℕ). judge c.args.k r (drop (c.loop-i.i + 1) arrivals)) (sym c.in_ok-reference.ensures.next);
+          (arrival-here _ _ _ _ _ lt i.greatest e _ c.requires.2) i.judged _ (rw c.in_ok-judged.was at c.judge_next-judged.ensures.refusal) refl
+          ∙ ap (λ (r : ℕ). judge c.args.k r (drop (c.loop-i.i + 1) arrivals)) (sym c.judge_next-judged.ensures.next);
     }
 
 pub returns : goal.returns

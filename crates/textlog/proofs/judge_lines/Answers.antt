@@ -35,11 +35,11 @@ returns-in-Err g c =
     rw c.refused_after-in-Err.ensures
     (judge-stop c.args.k _ l.count l.reference _ l.invariant.left _ _
     (lines-next g.N.Numbers.full l.greatest _ _ r.lead c.full_number-number.ensures) c.if-count-ge-ARRIVALS_MOST.false
-    (number_of c.in-Err.refusal) c.in-Err.ensures.refusal (λ z. omega (arith, number-above c.in-Err.refusal)))
+    (number_of c.in-Err.refusal) (rw c.in-Err.is at c.judge_next-judged.ensures.refusal) (λ z. omega (arith, number-above c.in-Err.refusal)))
 
 pub next_greatest-greatest-requires : goal.next_greatest-greatest-requires
 next_greatest-greatest-requires g c =
-    let o = one_split _ _ _ (sym c.in-Ok.ensures.refusal) in
+    let o = one_split _ _ _ (sym (rw c.in_default-refusal.is at c.judge_next-judged.ensures.refusal)) in
     omega (arith, o.0.1, c.requires)
 
 pub loop-at-smaller : goal.loop-at-smaller
@@ -51,7 +51,7 @@ pub loop-at-preserved : goal.loop-at-preserved
 loop-at-preserved g c =
     let l = c.loop-at in
     let r = line_read c.args.log.now l.at (sym c.line_at.ensures ∙ c.in-Some.is) in
-    let o = one_split _ _ _ (sym c.in-Ok.ensures.refusal) in
+    let o = one_split _ _ _ (sym (rw c.in_default-refusal.is at c.judge_next-judged.ensures.refusal)) in
     let m = c.next_greatest-greatest.ensures in
     record {
       small = omega (arith, m, o.0.1, c.requires, l.invariant.small);
@@ -59,8 +59,8 @@ loop-at-preserved g c =
       left =
           judge-next c.args.k _ l.count l.reference _ l.invariant.left _ _
           (lines-next g.N.Numbers.full l.greatest _ _ r.lead c.full_number-number.ensures) c.if-count-ge-ARRIVALS_MOST.false
-          0 c.in-Ok.ensures.refusal refl c.in-Ok.ensures.next
-          ∙ ap (λ (x : ℕ). judge_lines c.args.k (l.count + 1) c.in-Ok.next
+          0 (rw c.in_default-refusal.is at c.judge_next-judged.ensures.refusal) refl c.judge_next-judged.ensures.next
+          ∙ ap (λ (x : ℕ). judge_lines c.args.k (l.count + 1) c.judge_next-judged.result.reference
           (lines_by g.N.Numbers.full x (decoded_lines (drop c.in-Some.line.end c.args.log.now)))) (sym m);
     }
 

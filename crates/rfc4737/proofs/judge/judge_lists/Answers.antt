@@ -6,19 +6,19 @@ use Rattle.rfc4737.proofs.Judged.{left-err, left-ok}
 use Rattle.rfc4737.proofs.judge.judge_lists.Goals as goal
 
 -- the arrival is refused
-pub returns-in_err-reference : goal.returns-in_err-reference
+pub returns-in_err-judged : goal.returns-in_err-judged
 unfolding arrivals_from
-returns-in_err-reference c =
+returns-in_err-judged c =
     let p = err_from_is_err_and c.from_residual.result c.from_residual.ensures.1 in
     rw (c.loop-number.invariant, c.in-Some.ensures.steps.0, c.in-Some.ensures.steps.1, p.1, p.2)
-    (left-err _ _ _ _ _ c.in_err-reference.ensures.refusal)
+    (left-err _ _ _ _ _ (rw c.in_err-judged.was at c.judge_next-judged.ensures.refusal))
 
 -- it is not
 pub loop-number-preserved : goal.loop-number-preserved
 unfolding arrivals_from
 loop-number-preserved c =
-    rw (c.loop-number.invariant, c.in-Some.ensures.steps.0, c.in-Some.ensures.steps.1, c.in_ok-reference.ensures.next)
-    (left-ok _ _ _ _ c.in_ok-reference.ensures.refusal)
+    rw (c.loop-number.invariant, c.in-Some.ensures.steps.0, c.in-Some.ensures.steps.1, c.judge_next-judged.ensures.next)
+    (left-ok _ _ _ _ (rw c.in_ok-judged.was at c.judge_next-judged.ensures.refusal))
 
 -- no arrival is left
 pub returns : goal.returns

@@ -15,15 +15,15 @@ loop-twelve-init c =
     let e = items-all arrival_in a.at a.count a.file.now (chunks_exact_rest c.into_iter-twelve-iterator.result) c.requires (search rules) in
     record { size = search rules; finite = search rules; left = ap (judge a.sent 0) (sym e) }
 
-pub returns-in_err-reference : goal.returns-in_err-reference
-returns-in_err-reference c =
+pub returns-in_err-judged : goal.returns-in_err-judged
+returns-in_err-judged c =
     let p = err_from_is_err_and c.from_residual.result c.from_residual.ensures.1 in
     let s = c.in-Some.ensures.steps in
     let n : length c.in-Some.twelve.now ≡ arrival_width = s.1.1 ∙ c.loop-twelve.invariant.size in
     let e = items-left arrival_in (chunks_exact_rest c.loop-twelve.twelve-iterator) c.in-Some.twelve.now (chunks_exact_rest c.next.new.self) s.1.0 n in
     rw (p.1, p.2, c.loop-twelve.invariant.left, e, ← c.arrival_of-arrival.ensures)
     (left-err _ _ _ _ _
-    (c.in_err-reference.ensures.refusal
+    (rw c.in_err-judged.was at c.judge_next-judged.ensures.refusal
     ∙ ap (λ (n : ℕ). judge_one c.args.sent c.loop-twelve.reference (record { number = n; time = c.arrival_of-arrival.result.time })) c.from.ensures))
 
 pub loop-twelve-preserved : goal.loop-twelve-preserved
@@ -34,9 +34,9 @@ loop-twelve-preserved c =
     record {
       size = s.0 ∙ c.loop-twelve.invariant.size;
       finite = search rules;
-      left = rw (c.loop-twelve.invariant.left, e, ← c.arrival_of-arrival.ensures, c.in_ok-reference.ensures.next)
+      left = rw (c.loop-twelve.invariant.left, e, ← c.arrival_of-arrival.ensures, c.judge_next-judged.ensures.next)
           (left-ok _ _ _ _
-          (c.in_ok-reference.ensures.refusal
+          (rw c.in_ok-judged.was at c.judge_next-judged.ensures.refusal
           ∙ ap (λ (n : ℕ). judge_one c.args.sent c.loop-twelve.reference (record { number = n; time = c.arrival_of-arrival.result.time })) c.from.ensures));
     }
 
