@@ -3,7 +3,7 @@ use Rattle.std.specs.Prelude.{ℕ, List, [], ◌∷◌, map, ◌≡◌}
 use Rattle.octets.specs.Text.{ascii}
 use Rattle.rfc4737.specs.Judge.{numbers_of}
 use Rattle.shortnumbers.specs.Number.{range_of}
-use Rattle.textlog.specs.Decode.{LogJudgement}
+use Rattle.textlog.specs.declared.LogJudgement.{LogJudgement}
 use Rattle.shortlog.specs.Found.{found_arrivals, judge_short_log}
 
 -- a log of short numbers, their width in bits, K, and the judgement of the log

@@ -7,7 +7,8 @@ use Rattle.shortnumbers.specs.Number.{range_of, Near}
 use Rattle.shortnumbers.specs.InTurn.{greatest_of, in_turn, EachKeeps}
 use Rattle.shortnumbers.specs.Steps.{with_found, shortened}
 use Rattle.textlog.specs.Form.{Log}
-use Rattle.textlog.specs.Decode.{LogJudgement, DecodedLine, malformed, arrived, decoded_lines, arrivals_of_lines, judge_decoded}
+use Rattle.textlog.specs.Decode.{DecodedLine, malformed, arrived, decoded_lines, arrivals_of_lines, judge_decoded}
+use Rattle.textlog.specs.declared.LogJudgement.{LogJudgement}
 use Rattle.textlog.specs.Calls.{LinesImported}
 use Rattle.textlog.specs.declared.LogImport.{LogImport}
 

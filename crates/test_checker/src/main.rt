@@ -8,7 +8,7 @@
 mod changes;
 
 use cases::fields::{field, number_in};
-use cases::lists::{filled, first};
+use cases::lists::{fill, first};
 use cases::print::{write_number, write_word};
 use cases::text::{INPUT_OCTETS, lines, part};
 use changes::{OCTETS, every_change};
@@ -41,13 +41,13 @@ fn write_sample_verdict(
 
 // Writes the listing with the edit that a case's line gives into `room`; returns it.
 fn edited<'a>(listing: &[u8], line: &[u8], room: &'a mut [u8]) -> &'a [u8] {
-    let mut octets = [0u8; OCTETS];
-    let given = filled(field(line, 4), &mut octets);
+    let mut given = [0u8; OCTETS];
+    let n = fill(field(line, 4), &mut given);
     let at = number_in::<u16>(line, 2) as usize;
     let rest = octets_from(listing, at + number_in::<u16>(line, 3) as usize);
-    let next = at + given.len();
+    let next = at.saturating_add(n);
     octets::put_octets(room, 0, first(listing, at));
-    octets::put_octets(room, at, given);
+    octets::put_octets(room, at, first(&given, n));
     octets::put_octets(room, next, rest);
     first(room, next.saturating_add(rest.len()))
 }

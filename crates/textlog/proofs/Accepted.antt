@@ -33,7 +33,8 @@ use Rattle.sample.specs.declared.WriteAnswer.{WriteAnswer}
 use Rattle.sample.proofs.Exact.{decode-file}
 use Rattle.sample.proofs.Output.{refusal_into, output-read}
 use Rattle.textlog.specs.Form.{Log, none, after}
-use Rattle.textlog.specs.Decode.{LogJudgement, DecodedLine, malformed, arrived, decode_line, decoded_lines, arrival_or0, arrivals_of_lines, log_arrivals, judge_line, judge_lines, judge_decoded, judge_log}
+use Rattle.textlog.specs.Decode.{DecodedLine, malformed, arrived, decode_line, decoded_lines, arrival_or0, arrivals_of_lines, log_arrivals, judge_line, judge_lines, judge_decoded, judge_log}
+use Rattle.textlog.specs.declared.LogJudgement.{LogJudgement}
 use Rattle.textlog.specs.RoundTrip.{sample_with, Writable, ImportedIsFit}
 use Rattle.textlog.proofs.Lines.{decoded}
 use Rattle.textlog.proofs.Judging.{unless-split, judge-first}

@@ -16,7 +16,8 @@ use Rattle.rfc4737.specs.Refusals.{refusal_if, first_refusal, output_short}
 use Rattle.rfc4737.proofs.Due.{first-due, first_next}
 use Rattle.rfc4737.proofs.Tests.{neither}
 use Rattle.sample.specs.Output.{if_none}
-use Rattle.textlog.specs.Decode.{LogJudgement, DecodedLine, arrivals_of_lines, judge_decoded}
+use Rattle.textlog.specs.Decode.{DecodedLine, arrivals_of_lines, judge_decoded}
+use Rattle.textlog.specs.declared.LogJudgement.{LogJudgement}
 use Rattle.textlog.specs.Calls.{log_lists_short, import_refusal, LinesImported}
 use Rattle.textlog.specs.declared.LogImport.{LogImport}
 use Rattle.textlog.proofs.Accepted.{accepted-decoded}

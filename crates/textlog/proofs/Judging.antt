@@ -15,7 +15,8 @@ use Rattle.rfc4737.specs.Judge.{arrivals_most, judge_one}
 use Rattle.rfc4737.specs.Refusals.{many_arrivals, line_malformed}
 use Rattle.rfc4737.specs.Times.{next_reference}
 use Rattle.rfc4737.proofs.Due.{first_one}
-use Rattle.textlog.specs.Decode.{LogJudgement, DecodedLine, malformed, arrived, decoded_lines, arrival_or0, judge_line, unless, judge_lines}
+use Rattle.textlog.specs.Decode.{DecodedLine, malformed, arrived, decoded_lines, arrival_or0, judge_line, unless, judge_lines}
+use Rattle.textlog.specs.declared.LogJudgement.{LogJudgement}
 
 -- ---- a judgement, unless a refusal comes before it
 

@@ -26,7 +26,8 @@ use Rattle.sample.specs.Format.{item_octets}
 use Rattle.sample.proofs.Output.{own-none, output-read}
 use Rattle.sample.specs.Output.{if_none}
 use Rattle.textlog.specs.Form.{semicolon, comma, number_most, Digits, one, more, by_comma, thousandths, three_digits, Time, parted, Line, line, Log, none, after, arrival_line, log_of}
-use Rattle.textlog.specs.Decode.{LogJudgement, DecodedLine, arrived, decode_line, decoded_lines, arrivals_of_lines, log_arrivals, unless, judge_lines, judge_decoded, judge_log}
+use Rattle.textlog.specs.Decode.{DecodedLine, arrived, decode_line, decoded_lines, arrivals_of_lines, log_arrivals, unless, judge_lines, judge_decoded, judge_log}
+use Rattle.textlog.specs.declared.LogJudgement.{LogJudgement}
 use Rattle.textlog.specs.Calls.{import_refusal}
 use Rattle.textlog.specs.RoundTrip.{ExactLog, LogReadAgain}
 use Rattle.textlog.proofs.Lines.{decodes, line_first}

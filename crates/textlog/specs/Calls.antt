@@ -9,7 +9,8 @@ use Rattle.rfc4737.specs.Refusals.{refusal_if, first_refusal, output_short, line
 use Rattle.sample.specs.Output.{if_none, Output}
 use Rattle.sample.specs.declared.WriteAnswer.{WriteAnswer}
 use Rattle.textlog.specs.Form.{log_of}
-use Rattle.textlog.specs.Decode.{LogJudgement, DecodedLine, malformed, arrived, decoded_lines, arrivals_of_lines, judge_decoded}
+use Rattle.textlog.specs.Decode.{DecodedLine, malformed, arrived, decoded_lines, arrivals_of_lines, judge_decoded}
+use Rattle.textlog.specs.declared.LogJudgement.{LogJudgement}
 use Rattle.textlog.specs.declared.LogImport.{LogImport}
 use Rattle.textlog.specs.declared.LogRefusal.{LogRefusal}
 use Rattle.textlog.specs.declared.LogLine.{LogLine}

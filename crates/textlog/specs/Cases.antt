@@ -2,7 +2,8 @@
 use Rattle.std.specs.Prelude.{ℕ, List, [], ◌∷◌, map, ◌≡◌}
 use Rattle.octets.specs.Text.{ascii}
 use Rattle.textlog.specs.Form.{log_of}
-use Rattle.textlog.specs.Decode.{LogJudgement, DecodedLine, malformed, arrived, decode_line, judge_log}
+use Rattle.textlog.specs.Decode.{DecodedLine, malformed, arrived, decode_line, judge_log}
+use Rattle.textlog.specs.declared.LogJudgement.{LogJudgement}
 
 -- lines, each with what it decodes to
 abbrev pub line_table : List (List ℕ × DecodedLine)

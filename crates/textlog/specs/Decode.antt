@@ -8,6 +8,7 @@ use Rattle.rfc4737.specs.Judge.{arrivals_most, judge_one, judge_sent}
 use Rattle.rfc4737.specs.Times.{next_reference}
 use Rattle.rfc4737.specs.Refusals.{outside, refusal_if, first_refusal, many_arrivals, line_malformed}
 use Rattle.textlog.specs.Form.{semicolon, comma, point, thousandths, number_most, time_most}
+use Rattle.textlog.specs.declared.LogJudgement.{LogJudgement}
 use Rattle.textlog.specs.declared.reading.ReadLine.{ReadLine}
 
 -- ---- reading a line in stages: t is the text that is left, which begins at offset `at` of the log
@@ -95,13 +96,6 @@ abbrev pub judge_line : (k count reference : ℕ) → DecodedLine → ℕ
 judge_line k count reference malformed = line_malformed
 judge_line k count reference (arrived a) =
     first_refusal (refusal_if (leb arrivals_most count) many_arrivals ∷ judge_one k reference a ∷ [])
-
--- the judgement of a log: the refusal (0 for none), the number of arrivals (0 with a refusal), and the refused line. Lines are numbered
--- from 1; 0 is no line
-pub record LogJudgement : Type 0 where
-  pub refusal : ℕ
-  pub arrivals : ℕ
-  pub line : ℕ
 
 -- the judgement `next`, unless a refusal comes before it; `line` is 0 if no line is to blame
 abbrev pub unless : (refusal line : ℕ) → (next : LogJudgement) → LogJudgement

@@ -41,6 +41,15 @@ pub struct LogLine {
     pub time: u64,
 }
 
+// The judgement of a log: the refusal (0 for none), the number of arrivals (0 with a refusal), and the refused line. Lines are numbered
+// from 1; 0 is no line.
+#[derive(Clone, Copy)]
+pub struct LogJudgement {
+    pub refusal: u32,
+    pub arrivals: u32,
+    pub line: u32,
+}
+
 // Why a log is refused: the refusal, and the refused line, counted from 1; `None` if no line is to blame.
 #[derive(Clone, Copy)]
 pub struct LogRefusal {
@@ -56,6 +65,43 @@ impl From<LogRefusal> for Refusal {
     }
 }
 
+// The judgement of a refused log; `line` is 0 if no line is to blame.
+pub fn refused_at(refusal: u32, line: u32) -> LogJudgement
+    ensures { result ≡ record { refusal = refusal; arrivals = 0; line = line } }
+{
+    LogJudgement {
+        refusal,
+        arrivals: 0,
+        line,
+    }
+}
+
+impl From<Result<u32, LogRefusal>> for LogJudgement {
+    ghost from_gives = { λ judged judgement. judgement ≡ judgement_in judged };
+
+    // The judgement of a log of this many arrivals, or of a refused one.
+    fn from(judged: Result<u32, LogRefusal>) -> LogJudgement {
+        match judged {
+            Ok(arrivals) => LogJudgement {
+                refusal: NONE,
+                arrivals,
+                line: 0,
+            },
+            Err(refused) => refused_at(refused.refusal.number(), refused.line.unwrap_or(0)),
+        }
+    }
+}
+
+// The result of a refused import.
+pub fn refused_import(refusal: u32) -> LogImport
+    ensures { result ≡ record { refusal = refusal; arrivals = 0 } }
+{
+    LogImport {
+        refusal,
+        arrivals: 0,
+    }
+}
+
 impl From<Result<u32, Refusal>> for LogImport {
     ghost from_gives = { λ imported answer. answer ≡ import_in imported };
 
@@ -66,10 +112,7 @@ impl From<Result<u32, Refusal>> for LogImport {
                 refusal: NONE,
                 arrivals,
             },
-            Err(refusal) => LogImport {
-                refusal: refusal.number(),
-                arrivals: 0,
-            },
+            Err(refusal) => refused_import(refusal.number()),
         }
     }
 }
@@ -157,7 +200,7 @@ fn fill_arrivals<N: Numbers>(log: &[u8], arrivals: usize, numbers: &mut [u32], t
 }
 
 // Whether one of two lists, of the lengths `numbers` and `times`, is too short for `arrivals`.
-fn too_short(arrivals: u32, numbers: usize, times: usize) -> bool
+pub fn too_short(arrivals: u32, numbers: usize, times: usize) -> bool
     ensures { result ≡ log_lists_short arrivals numbers times }
 {
     numbers < arrivals as usize || times < arrivals as usize
@@ -210,10 +253,7 @@ pub fn import(log: &[u8], k: u32, numbers: &mut [u32], times: &mut [u64]) -> Log
 pub fn refused_line_by<N: Numbers>(log: &[u8], k: u32) -> u32
     ensures { result ≡ (judge_decoded k (lines_by N.full 0 (decoded_lines log.now))).line }
 {
-    match judge_log::<N>(log, k) {
-        Ok(_) => 0,
-        Err(refused) => refused.line.unwrap_or(0),
-    }
+    LogJudgement::from(judge_log::<N>(log, k)).line
 }
 
 // The number of the first refused line of a log, from 1. It is 0 if no line is refused, also if K itself is; C receives this number. No

@@ -2,7 +2,8 @@
 use Rattle.std.proofs.Common.{Ok, Err, refl, sym, ap, ◌∙◌, arith}
 use Rattle.std.proofs.lemmas.Result.{err_from_is_err_and}
 use Rattle.rfc4737.proofs.Refused.{number-above}
-use Rattle.textlog.specs.Decode.{LogJudgement, decoded_lines}
+use Rattle.textlog.specs.Decode.{decoded_lines}
+use Rattle.textlog.specs.declared.LogJudgement.{LogJudgement}
 use Rattle.textlog.specs.Numbers.{lines_by}
 use Rattle.textlog.specs.Calls.{judgement_in}
 use Rattle.textlog.proofs.Accepted.{accepted-decoded}
