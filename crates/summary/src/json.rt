@@ -223,20 +223,18 @@ fn write_end(out: &mut Summary, total: u32)
     out.between(b",\"disorder_pairs\":", total as u64, b"}\n");
 }
 
-// Returns the summary of a sample.
+// Writes the summary of a sample into the caller's text, as `lines::write_text` does.
 #[tactic(auto, unfolding(crate::specs::Json::summary_json, crate::specs::Json::object_of))]
-pub(crate) fn object_of(file: &[u8], layout: Layout) -> Summary
-    requires { FileLayout (decode file.now) layout }
-    ensures written { result ≡ summary_json (decode file.now) }
-    ensures room { length result ≤ 2048 }
+pub(crate) fn write_object(out: &mut Summary, file: &[u8], layout: Layout)
+    requires { FileLayout (decode file.now) layout × (length out.old + 2048 ≤ 2048) }
+    ensures written { out.new ≡ out.old ++ summary_json (decode file.now) }
+    ensures room { length out.new ≤ length out.old + 2048 }
 {
     let figures = figures_of(file, layout);
-    let mut out = Summary::new();
-    put_label_member(&mut out, sample::label(file));
-    write_counts(&mut out, figures);
-    write_needs(&mut out, file);
-    write_limits(&mut out, figures);
-    write_ratios(&mut out, figures);
-    write_end(&mut out, figures.disorder);
-    out
+    put_label_member(out, sample::label(file));
+    write_counts(out, figures);
+    write_needs(out, file);
+    write_limits(out, figures);
+    write_ratios(out, figures);
+    write_end(out, figures.disorder);
 }

@@ -19,8 +19,9 @@ mod parts;
 
 use all::{Others, degrees_of};
 pub use json::write_label_member;
-use json::{object_of, put_label_member};
-use lines::text_of;
+use json::{put_label_member, write_object};
+use lines::write_text;
+use parts::Summary;
 use rfc4737::judge::ARRIVALS_MOST;
 use rfc4737::refusal::{NONE, Refusal};
 use sample::WriteAnswer;
@@ -48,7 +49,9 @@ pub fn write(file: &[u8], out: &mut [u8]) -> WriteAnswer
     ensures room { length (summary_text (decode file.now)) ≤ summary_octets }
 {
     let layout = sample::check(file);
-    hand_over(layout.refusal, text_of(file, layout).octets(), out)
+    let mut text = Summary::new();
+    write_text(&mut text, file, layout);
+    hand_over(layout.refusal, text.octets(), out)
 }
 
 // Writes the summary of a sample as one JSON object and a line feed. Room, refusals and cost are those of `write`.
@@ -57,7 +60,9 @@ pub fn write_json(file: &[u8], out: &mut [u8]) -> WriteAnswer
     ensures room { length (summary_json (decode file.now)) ≤ summary_octets }
 {
     let layout = sample::check(file);
-    hand_over(layout.refusal, object_of(file, layout).octets(), out)
+    let mut text = Summary::new();
+    write_object(&mut text, file, layout);
+    hand_over(layout.refusal, text.octets(), out)
 }
 
 // Writes a label as the first member of a JSON object to the start of `out`; LABEL_OCTETS octets have room for any label of at most 64
@@ -82,7 +87,8 @@ pub fn write_all(file: &[u8], out: &mut [u8]) -> WriteAnswer
     ensures room { length (all_text (decode file.now)) ≤ all_octets }
 {
     let layout = sample::check(file);
-    let text = text_of(file, layout);
+    let mut text = Summary::new();
+    write_text(&mut text, file, layout);
     let tally = metrics::tally(file).tally;
     let degrees = degrees_of(file);
     let mut gaps = [0u32; MAX_RECORDS];

@@ -148,19 +148,17 @@ fn write_disorder(out: &mut Summary, total: u32)
     );
 }
 
-// Returns the summary of a sample.
+// Writes the summary of a sample into the caller's text: one that is returned would stand on the stack twice.
 #[tactic(auto, unfolding(crate::specs::Text::summary_text, crate::specs::Text::text_of))]
-pub(crate) fn text_of(file: &[u8], layout: Layout) -> Summary
-    requires { FileLayout (decode file.now) layout }
-    ensures written { result ≡ summary_text (decode file.now) }
-    ensures room { length result ≤ 2048 }
+pub(crate) fn write_text(out: &mut Summary, file: &[u8], layout: Layout)
+    requires { FileLayout (decode file.now) layout × (length out.old + 2048 ≤ 2048) }
+    ensures written { out.new ≡ out.old ++ summary_text (decode file.now) }
+    ensures room { length out.new ≤ length out.old + 2048 }
 {
     let figures = figures_of(file, layout);
-    let mut out = Summary::new();
-    write_counts(&mut out, figures);
-    write_needs(&mut out, file);
-    write_limits(&mut out, figures);
-    write_ratios(&mut out, figures);
-    write_disorder(&mut out, figures.disorder);
-    out
+    write_counts(out, figures);
+    write_needs(out, file);
+    write_limits(out, figures);
+    write_ratios(out, figures);
+    write_disorder(out, figures.disorder);
 }

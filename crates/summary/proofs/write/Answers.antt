@@ -1,6 +1,8 @@
--- `summary::write` meets its contract: the check lays the file out (`laid-out`). Assumes nothing.
+-- `summary::write` meets its contract: the check lays the file out (`laid-out`), and a new text is empty. Assumes nothing.
+use Rattle.std.proofs.Common.{length, ap, arith}
 use Rattle.summary.proofs.Pieces.{laid-out}
 use Rattle.summary.proofs.write.Goals as goal
 
-pub text_of-requires : goal.text_of-requires
-text_of-requires c = laid-out _ _ c.check-layout.ensures.value (λ i. (c.type_inv.file i).fits)
+pub write_text-requires : goal.write_text-requires
+write_text-requires c =
+    (laid-out _ _ c.check-layout.ensures.value (λ i. (c.type_inv.file i).fits), omega (arith, ap length c.new-text.ensures))

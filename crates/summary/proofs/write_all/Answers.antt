@@ -20,8 +20,9 @@ whole d y {text} {records} e f g =
     ap (λ (l : List ℕ). l ++ more_text (answers_of d) records) f
     ∙ ap (λ (n : ℕ). summary_text d ++ more_text (answers_of d) n) (g ∙ ap (λ (y : Layout). y.arrivals) e)
 
-pub text_of-text-requires : goal.text_of-text-requires
-text_of-text-requires c = laid-out _ _ c.check-layout.ensures.value (λ i. (c.type_inv.file i).fits)
+pub write_text-requires : goal.write_text-requires
+write_text-requires c =
+    (laid-out _ _ c.check-layout.ensures.value (λ i. (c.type_inv.file i).fits), omega (arith, ap length c.new-text.ensures))
 
 pub slice_bounds-gaps-end : goal.slice_bounds-gaps-end
 slice_bounds-gaps-end c =
@@ -45,6 +46,7 @@ returns c =
     figures-known d y h c.tally.ensures c.degrees_of-degrees.ensures c.record_gaps.ensures.gaps_to c.record_gaps.ensures.tell
     c.counts.ensures in
     let records : length (take y.arrivals c.record_gaps.new.gaps) ≡ y.arrivals = length-take-le _ _ (omega (arith, h.few)) in
-    let text = whole d y e (c.octets.ensures ∙ c.text_of-text.ensures.written) records in
+    let summary = c.octets.ensures ∙ c.write_text.ensures.written ∙ ap (λ (l : List ℕ). l ++ summary_text d) c.new-text.ensures in
+    let text = whole d y e summary records in
     let o = c.hand_over.ensures (answers_of d) all in
     record { all_to = output-of (ap (λ (y : Layout). y.refusal) e) text o.0; room = omega (arith, o.1, ap length text) }
