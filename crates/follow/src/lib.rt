@@ -13,7 +13,7 @@ mod text;
 use receiver::{Outcome, Receiver, ReceiverAnswer, StepAnswer, Stream};
 use rfc4737::refusal::NONE;
 use sample::WriteAnswer;
-use text::{text_of_counts, text_of_line};
+use text::{Line, write_counts, write_line};
 use textlog::{LogLine, read_line};
 use writing::hand_over;
 
@@ -50,7 +50,9 @@ pub fn line_text(read: LogLine, outcome: Outcome, out: &mut [u8]) -> WriteAnswer
     ensures output { Output 0 (line_text read outcome) out.old result out.new }
     ensures room { length (line_text read outcome) ≤ line_octets }
 {
-    hand_over(NONE, text_of_line(read, outcome).octets(), out)
+    let mut text = Line::new();
+    write_line(&mut text, read, outcome);
+    hand_over(NONE, text.octets(), out)
 }
 
 // Reads one line, steps the receiver by its arrival, and writes the outcome to the start of `out`; LINE_OCTETS octets have room for any. A
@@ -85,5 +87,7 @@ pub fn counts(stream: Stream, out: &mut [u8]) -> WriteAnswer
     ensures output { Output 0 (counts_text stream) out.old result out.new }
     ensures room { length (counts_text stream) ≤ line_octets }
 {
-    hand_over(NONE, text_of_counts(stream).octets(), out)
+    let mut text = Line::new();
+    write_counts(&mut text, stream);
+    hand_over(NONE, text.octets(), out)
 }

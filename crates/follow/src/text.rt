@@ -117,15 +117,15 @@ fn write_outcome(out: &mut Line, outcome: Outcome)
     }
 }
 
-// Returns the text of a line.
+// Writes the text of a line into the caller's text: one that is returned would stand on the stack twice.
 #[tactic(auto, unfolding(crate::specs::Text::line_text))]
-pub(crate) fn text_of_line(read: LogLine, outcome: Outcome) -> Line
-    ensures { result ≡ line_text read outcome }
+pub(crate) fn write_line(out: &mut Line, read: LogLine, outcome: Outcome)
+    requires { length out.old + 240 ≤ 256 }
+    ensures written { out.new ≡ out.old ++ line_text read outcome }
+    ensures room { length out.new ≤ length out.old + 240 }
 {
-    let mut out = Line::new();
-    write_arrival(&mut out, read);
-    write_outcome(&mut out, outcome);
-    out
+    write_arrival(out, read);
+    write_outcome(out, outcome);
 }
 
 // Writes the counts of the arrivals.
@@ -154,14 +154,14 @@ fn write_runs(out: &mut Line, runs: Runs)
     out.between(b"", runs.current as u64, b"\n");
 }
 
-// Returns the text of the counts of a stream.
+// Writes the text of the counts of a stream into the caller's text.
 #[tactic(auto, unfolding(crate::specs::Text::counts_text))]
-pub(crate) fn text_of_counts(stream: Stream) -> Line
-    ensures { result ≡ counts_text stream }
+pub(crate) fn write_counts(out: &mut Line, stream: Stream)
+    requires { length out.old + 255 ≤ 256 }
+    ensures written { out.new ≡ out.old ++ counts_text stream }
+    ensures room { length out.new ≤ length out.old + 255 }
 {
     let runs = stream.runs;
-    let mut out = Line::new();
-    write_accepted(&mut out, stream);
-    write_runs(&mut out, runs);
-    out
+    write_accepted(out, stream);
+    write_runs(out, runs);
 }
