@@ -132,17 +132,19 @@ impl Places {
     }
 }
 
-// Moves the values after the oldest, up to `last`, by one place, and stores a new one at `last`. From a copy, and the new one first, so that
-// LLVM makes memcpy of the loop: all three arrays in one loop cost a step with the window full a quarter more, and with the new one last,
-// or by `copy_within`, memmove is called, which the archive does not ask of C.
+// Moves the values after the oldest, up to `last`, by one place, and stores a new one at `last`: from `last` on, each place hands its value
+// on to the one before. So the stack has no copy of the array, and LLVM makes no memmove of the loop, which the archive does not ask of C:
+// it would of a loop from the first place on, or of `copy_within`.
 fn push_16(values: &mut [u16; Receiver::WINDOW], down: bool, last: usize, value: u16)
     requires { last < window_places }
     ensures { oldest_first down values.new ≡ pushed false (last + 1) (oldest_first down values.old) value }
 {
-    let held = *values;
-    values[place(down, last)] = value;
-    for i in 0..last {
-        values[place(down, i)] = held[place(down, i + 1)];
+    let mut carried = value;
+    for i in (0..last + 1).rev() {
+        let at = place(down, i);
+        let held = values[at];
+        values[at] = carried;
+        carried = held;
     }
 }
 
@@ -151,10 +153,12 @@ fn push_64(values: &mut [u64; Receiver::WINDOW], down: bool, last: usize, value:
     requires { last < window_places }
     ensures { oldest_first down values.new ≡ pushed false (last + 1) (oldest_first down values.old) value }
 {
-    let held = *values;
-    values[place(down, last)] = value;
-    for i in 0..last {
-        values[place(down, i)] = held[place(down, i + 1)];
+    let mut carried = value;
+    for i in (0..last + 1).rev() {
+        let at = place(down, i);
+        let held = values[at];
+        values[at] = carried;
+        carried = held;
     }
 }
 

@@ -1,8 +1,8 @@
--- the last place has the new value, the first i have that of the next, and the others have their own
-use Rattle.std.proofs.Common.{◌≡◌, set}
+-- with the value carried after the first i places the list is as it was with the new one after the last
+use Rattle.std.proofs.Common.{◌≡◌, ◌+◌}
 use Rattle.receiver.specs.Parts.{oldest_first}
-use Rattle.receiver.proofs.Shift.{shifted}
+use Rattle.receiver.proofs.Shift.{held_at}
 use Rattle.receiver.proofs.kept.push_64.Given as goal
 
 abbrev pub invariant-loop-i : goal.invariant-loop-i
-invariant-loop-i l = oldest_first l.down l.values ≡ set (shifted l.i (oldest_first l.down l.fn.values)) l.last l.value
+invariant-loop-i l = held_at l.i l.carried (oldest_first l.down l.values) ≡ held_at (l.last + 1) l.value (oldest_first l.down l.fn.values)
