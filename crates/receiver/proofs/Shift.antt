@@ -1,5 +1,5 @@
 -- A value that is carried through places from the last on. Held after i places, it stands in the list `held_at i`. A turn stores it in
--- place i, and takes what was there, which is the same list (`held_next`). From place n on the list that is left is pushed
+-- place i, and takes what was there, which is the same list (`held_next`). At the end the list without the value carried is pushed
 -- (`pushed-held`). l and t are lists of the places' values, v is the value carried. Assumes nothing.
 use Prim.Native.Nat.{ℕ, suc, ◌+◌, ◌<◌}
 use mathlib.Core.Bool.{false}
