@@ -67,15 +67,21 @@ impl Arrivals<'_> {
         }
     }
 
-    // Returns the key of the arrival at a place, then the place; 0 for the key of a place after the last arrival.
-    pub(crate) fn full_key(&self, place: u16) -> u64
-        ensures { result ≡ piece_key self.now.lengths.now self.now.offsets.now place * 65536 + place }
+    // Returns the key of the arrival at a place; 0 after the last arrival.
+    pub(crate) fn key(&self, place: u16) -> u32
+        ensures { result ≡ piece_key self.now.lengths.now self.now.offsets.now place }
     {
         let i = usize::from(place);
         if i < self.offsets.len() {
-            let key = u64::from(self.offsets[i]) * 65536 + u64::from(self.lengths[i]);
-            return key * 65536 + u64::from(place);
+            return u32::from(self.offsets[i]) * 65536 + u32::from(self.lengths[i]);
         }
-        u64::from(place)
+        0
+    }
+
+    // Returns the key of the arrival at a place, then the place.
+    pub(crate) fn full_key(&self, place: u16) -> u64
+        ensures { result ≡ piece_key self.now.lengths.now self.now.offsets.now place * 65536 + place }
+    {
+        u64::from(self.key(place)) * 65536 + u64::from(place)
     }
 }

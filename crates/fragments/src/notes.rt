@@ -12,6 +12,9 @@ use crate::cover::complete;
 use crate::sort::put_in_order;
 use crate::tables::{count_packets, fill_places, sum_counts};
 
+// The length of the spare list: half of the greatest number of arrivals.
+const SPARE_LEN: usize = MAX_PACKETS / 2;
+
 // Notes the arrivals of packet s. `run` has their indices, sorted by key, so equal arrivals are neighbours.
 fn note_run(arrivals: &Arrivals, s: u32, run: &[u16], marks: &mut [u8], wholes: &mut [u8])
     requires { Run (pieces arrivals.now) s run.now × NotedTo (pieces arrivals.now) s marks.old wholes.old }
@@ -45,11 +48,12 @@ fn note_packets(
         × (length marks.old ≡ length arrivals.now.numbers.now) × (length wholes.old ≡ length arrivals.now.numbers.now) }
     ensures { Noted (pieces arrivals.now) marks.new wholes.new }
 {
+    let mut spare = [0u16; SPARE_LEN];
     let mut from = 0;
     for (p, end) in ends.iter().enumerate() {
         let to = usize::from(*end);
         let run = &mut places[from..to];
-        put_in_order(arrivals, run);
+        put_in_order(arrivals, run, &mut spare);
         note_run(arrivals, p as u32 + 1, run, marks, wholes);
         from = to;
     }

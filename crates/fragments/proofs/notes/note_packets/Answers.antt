@@ -65,10 +65,12 @@ put_in_order-requires c =
     let e : c.from-to.result ≡ get_or c.args.ends.now c.loop-p.p 0 = search rules in
     let i = c.loop-p.invariant in
     let ns : List ℕ = c.args.arrivals.now.numbers.now in
+    let b = block_inside _ _ c.loop-p.p c.loop-p-test.true _ _ i.start (e ∙ c.requires.4.end c.loop-p.p c.loop-p-test.true) _ i.placed in
     let s = block_same _ _ c.loop-p.p c.loop-p-test.true _ _ i.start (e ∙ c.requires.4.end c.loop-p.p c.loop-p-test.true) _ i.placed in
     record {
       rising = subst (Rising (λ (x : ℕ). x)) (sym s) (places-rise ns (suc c.loop-p.p));
       short = subst (All (λ (x : ℕ). x < 65536)) (sym s) (places-short ns (suc c.loop-p.p) (omega (arith, c.requires.2)));
+      room = omega (arith, b.0, b.1.0, i.placed.room, c.requires.2);
     }
 
 pub note_run-requires : goal.note_run-requires

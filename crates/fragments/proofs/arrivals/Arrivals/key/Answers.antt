@@ -1,7 +1,7 @@
 use Rattle.std.proofs.Common.{arith}
 use Rattle.std.proofs.lemmas.List.{get_or_past}
 use Rattle.fragments.specs.Places.{piece_key}
-use Rattle.fragments.proofs.arrivals.Arrivals.full_key.Goals as goal
+use Rattle.fragments.proofs.arrivals.Arrivals.key.Goals as goal
 
 pub returns-then-i-self : goal.returns-then-i-self
 unfolding piece_key
