@@ -37,7 +37,7 @@ use Rattle.metrics.proofs.Pairs.{size-tree-none}
 pub engine-start : (d : Decoded) → EngineState d 0
     (record {
       tables =
-          record { numbers = replicate sent_most 0; records = replicate number_places 0; skipped = replicate number_places 0 };
+          record { numbers = replicate sent_most 0; seen = record { records = replicate number_places 0; skipped = replicate number_places 0 } };
       state = record { count = 0; next = 1 };
       tree = record { sums = replicate 2049 0; filled = 0; total = 0 };
     })
@@ -92,7 +92,7 @@ module _ (d : Decoded) (layout : Layout) (i : ℕ) (h : HasRecord d layout i) wh
       pub engine-next : (tree' : PairTree) → LinkTable 1 (firsts (before d i)) skipped
           → SizeTree (size_of d) (firsts (before d i)) tree'
           → EngineState d (i + 1)
-          (record { tables = record { numbers = numbers'; records = records'; skipped = skipped' }; state = state'; tree = tree' })
+          (record { tables = record { numbers = numbers'; seen = record { records = records'; skipped = skipped' } }; state = state'; tree = tree' })
       engine-next tree' l t =
           record {
             follows = noted-follows d layout i h numbers records skipped state f number is largest numbers' records' skipped' state' n;

@@ -33,7 +33,7 @@ use Rattle.sample.specs.declared.Layout.{Layout}
 use Rattle.sample.specs.Decode.{Decoded}
 use Rattle.metrics.specs.Sample.{size_of, sample_arrivals, answers_of}
 use Rattle.metrics.specs.Records.{arrival_at, before, answer_at, answers_to, FileLayout, HasRecord, number_places}
-use Rattle.metrics.specs.Private.Tables.{EngineTables, ClassOf, IfLate}
+use Rattle.metrics.specs.Private.Tables.{EngineTables, SeenAt, ClassOf, IfLate}
 use Rattle.metrics.specs.Private.Steps.{DiscoverersAt, known}
 use Rattle.metrics.specs.declared.engine.kind.Class.{Class}
 use Rattle.metrics.specs.declared.engine.seen.State.{State}
@@ -54,6 +54,11 @@ follows-start d =
       recorded = record { at = λ s low high. zeros number_places s };
       skips = λ s low h new. absurd (omega arith);
     }
+
+-- those by packet number
+pub seen-start : (d : Decoded)
+    → SeenAt (before d 0) (record { records = replicate number_places 0; skipped = replicate number_places 0 }) (record { count = 0; next = 1 })
+seen-start d = record { numbers = _; follows = follows-start d }
 
 -- no answers yet
 pub answers-start : (d : Decoded) → answers_to d 0 ≡ []

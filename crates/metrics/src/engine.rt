@@ -56,7 +56,7 @@ impl Engine {
     {
         let number = arrival.number;
         let state = self.state;
-        let class = self.tables.class_of(state.next, number);
+        let class = self.tables.seen.class_of(state.next, number);
         let late = self
             .tree
             .late_figures(file, &self.tables, state.count, number, class);

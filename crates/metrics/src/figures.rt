@@ -22,7 +22,7 @@ pub(crate) mod rows;
 use crate::engine::input::CheckedFile;
 use crate::engine::kind::Class;
 use crate::engine::largest_n::largest_by_links;
-use crate::engine::seen::{MAX_FIRST_ARRIVALS, PACKET_TABLE_LEN, State, Tables};
+use crate::engine::seen::{MAX_FIRST_ARRIVALS, PACKET_TABLE_LEN, Seen, State};
 use crate::{TALLY_MOST, TALLY_PLACES};
 use rfc4737::{Counts, Runs};
 
@@ -147,14 +147,14 @@ fn tally_after(tally: &mut [u32; TALLY_PLACES], count: u32, class: Class)
 pub(crate) fn tally_of(file: &CheckedFile) -> [u32; TALLY_PLACES]
     ensures { result ≡ tally (answers_of (decode file.now.file.now)) }
 {
-    let mut tables = Tables::new();
+    let mut seen = Seen::new();
     let mut state = State::START;
     let mut tally = [0u32; TALLY_PLACES];
     for i in 0..file.layout.arrivals {
         let number = file.number_of(i);
-        let class = tables.class_of(state.next, number);
+        let class = seen.class_of(state.next, number);
         tally_after(&mut tally, state.count, class);
-        state = tables.note(i, number, 0, state);
+        state = seen.note(i, number, 0, state);
     }
     tally
 }

@@ -31,5 +31,5 @@ pub record FillInput (d : Decoded) (layout : Layout) (numbers : List ℕ) (tree 
 -- the engine after the first i arrivals
 pub record EngineState (d : Decoded) (i : ℕ) (engine : Engine) : Type 0 where
   pub follows : TablesAt (before d i) engine.tables engine.state
-  pub linked : LinkTable 1 (firsts (before d i)) engine.tables.skipped
+  pub linked : LinkTable 1 (firsts (before d i)) engine.tables.seen.skipped
   pub totalled : SizeTree (size_of d) (firsts (before d i)) engine.tree

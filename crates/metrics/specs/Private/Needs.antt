@@ -30,7 +30,7 @@ pub record NeedInput (d : Decoded) (layout : Layout) (i : ℕ) (arrival : Arriva
   pub there : HasRecord d layout i
   pub is : arrival ≡ arrival_at d i
   pub numbered : NumberTable (firsts (before d i)) tables.numbers count
-  pub recorded : RecordTable (before d i) tables.records
+  pub recorded : RecordTable (before d i) tables.seen.records
   pub classed : ClassOf count class (answer_at d i)
   pub new : IfLate (λ (at : ℕ). has arrival.number (firsts (before d i)) ≡ false) class
   pub totalled : SizeTree (size_of d) (firsts (before d i)) tree

@@ -1,5 +1,5 @@
 -- What the tables of the engine hold after some arrivals, and the class that they give an arrival. Assumes nothing.
-use Rattle.std.specs.Prelude.{◌≡◌, false, cond, List, [], ◌∷◌, ◌++◌, ℕ, ◌+◌, ◌-◌, ◌≤◌, ◌<◌, eqb, leb, length, take, get_or}
+use Rattle.std.specs.Prelude.{◌≡◌, false, cond, List, [], ◌∷◌, ◌++◌, ℕ, ◌+◌, ◌-◌, ◌≤◌, ◌<◌, eqb, leb, length, take, set, get_or}
 use Rattle.std.proofs.Math.Option.{some}
 use Rattle.rfc4737.specs.declared.Arrival.{Arrival}
 use Rattle.rfc4737.specs.declared.Answer.{Answer}
@@ -11,6 +11,7 @@ use Rattle.rfc4737.specs.Judge.{sent_most, arrivals_most}
 use Rattle.sample.specs.Places.{no_arrival}
 use Rattle.metrics.specs.Records.{number_places}
 use Rattle.metrics.specs.declared.engine.kind.Class.{Class}
+use Rattle.metrics.specs.declared.engine.seen.Seen.{Seen}
 use Rattle.metrics.specs.declared.engine.seen.State.{State}
 use Rattle.metrics.specs.declared.engine.seen.Tables.{Tables}
 
@@ -57,7 +58,12 @@ pub record EngineTables (earlier : List Arrival) (numbers records skipped : List
 
 -- the same of the tables of the engine
 abbrev pub TablesAt : (earlier : List Arrival) → Tables → State → Type 0
-TablesAt earlier tables state = EngineTables earlier tables.numbers tables.records tables.skipped state
+TablesAt earlier tables state = EngineTables earlier tables.numbers tables.seen.records tables.seen.skipped state
+
+-- the same of the tables by packet number, which stand without the numbers: with those of the first arrivals they are the tables
+pub record SeenAt (earlier : List Arrival) (seen : Seen) (state : State) : Type 0 where
+  pub numbers : List ℕ
+  pub follows : EngineTables earlier numbers seen.records seen.skipped state
 
 -- links by the largest n: for each first arrival, `links[number] + more == largest n + 1`; from NextExp on every entry is 0
 pub record LinkTable (more : ℕ) (fs : List Arrival) (links : List ℕ) : Type 0 where
@@ -83,6 +89,18 @@ pub record NotedRecord (i number largest : ℕ) (numbers records skipped : List 
   pub linked : (l : List Arrival) (a : Arrival) → length l ≡ i → a.number ≡ number → EngineTables l numbers records skipped state
       → (has number l ≡ false → number < next_exp (firsts l) → largest ≡ largest_n (firsts l) number)
       → LinkTable 1 (firsts l) skipped → LinkTable 1 (firsts (l ++ (a ∷ []))) skipped'
+
+-- record i + 1, an arrival of packet `number`, can be noted in the tables by packet number: with some numbers it can be in all tables
+pub record NextSeen (records skipped : List ℕ) (state : State) (i number : ℕ) : Type 0 where
+  pub numbers : List ℕ
+  pub next : NextRecord numbers records skipped state i number
+
+-- record i + 1, an arrival of packet `number`, has been noted in the tables by packet number: once its number is put after those of the
+-- first arrivals, it has been noted in all tables
+abbrev pub NotedSeen : (i number largest : ℕ) (records skipped : List ℕ) (state : State) (records' skipped' : List ℕ) (state' : State)
+    → Type 0
+NotedSeen i number largest records skipped state records' skipped' state' =
+    (numbers : List ℕ) → NotedRecord i number largest numbers records skipped state (set numbers state.count number) records' skipped' state'
 
 -- the class of an arrival of packet `number`, by the tables and NextExp
 unfoldable pub class_by : List ℕ → List ℕ → ℕ → ℕ → Class

@@ -86,7 +86,7 @@ impl PairTree {
         class: Class,
     ) -> LateFigures
         requires { FillInput (decode file.now.file.now) file.now.layout tables.now.numbers self.old count × (1 ≤ s) × (s ≤ sent_most)
-            × Links 1 tables.now.numbers tables.now.skipped count }
+            × Links 1 tables.now.numbers tables.now.seen.skipped count }
         ensures { (result.largest ≤ sent_most) × ((fs : List Arrival) → NumberTable fs tables.now.numbers count
             → SizeTree (size_of (decode file.now.file.now)) fs self.old
             → SizeTree (size_of (decode file.now.file.now)) fs self.new
@@ -101,7 +101,7 @@ impl PairTree {
         };
         LateFigures {
             offset: self.offset(file, &tables.numbers, count, s),
-            largest: largest_by_links(&tables.numbers, &tables.skipped, 1, count, s),
+            largest: largest_by_links(&tables.numbers, &tables.seen.skipped, 1, count, s),
         }
     }
 }

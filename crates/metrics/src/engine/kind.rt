@@ -12,7 +12,7 @@ ghost use Rattle.metrics.specs.declared.engine.kind.Class.{Class};
 ghost use Rattle.metrics.specs.Private.Tables.{NumberTable, RecordTable, class_by, ClassOf, IfLate};
 
 use crate::engine::input::CheckedFile;
-use crate::engine::seen::Tables;
+use crate::engine::seen::{Seen, Tables};
 use rfc4737::{Answer, Arrival, DuplicateFigures, InOrderFigures, LateTime, ReorderedFigures};
 
 // The class of an arrival: a duplicate, with the record of the first arrival; in order, with the jump size; or reordered, with the
@@ -31,7 +31,7 @@ pub(crate) struct LateFigures {
     pub largest: u32,
 }
 
-impl Tables {
+impl Seen {
     // The class of an arrival of packet `number`, in one step.
     pub(crate) fn class_of(&self, next: u32, number: u32) -> Class
         requires { number ≤ sent_most }
@@ -47,7 +47,9 @@ impl Tables {
         }
         Class::Reordered(self.skipped[packet] as u32)
     }
+}
 
+impl Tables {
     // The late time of record i + 1, a reordered packet that arrives at `time`, after `count` first arrivals, with its discontinuity at
     // position `at`. The tables lead from that position to its packet, from the packet to its record, and from the record to its time.
     pub(crate) fn late_time(
@@ -60,13 +62,13 @@ impl Tables {
     ) -> LateTime
         requires { (i < file.now.layout.arrivals) × ClassOf count (Class.Reordered at) (answer_at (decode file.now.file.now) i)
             × NumberTable (firsts (before (decode file.now.file.now) i)) self.now.numbers count
-            × RecordTable (before (decode file.now.file.now) i) self.now.records
+            × RecordTable (before (decode file.now.file.now) i) self.now.seen.records
             × (time ≡ (arrival_at (decode file.now.file.now) i).time) }
         ensures { (f : ReorderedFigures) → Answer.Reordered f ≡ answer_at (decode file.now.file.now) i → result ≡ f.late }
     {
         let place = (at - 1) as usize;
         let packet = self.numbers[place] as usize;
-        let first = self.records[packet] as u32;
+        let first = self.seen.records[packet] as u32;
         let past = file.time_of(first - 1);
         rfc4737::time::elapsed(past, time)
     }
@@ -83,7 +85,7 @@ impl Tables {
     ) -> Answer
         requires { (i < file.now.layout.arrivals) × (arrival ≡ arrival_at (decode file.now.file.now) i)
             × NumberTable (firsts (before (decode file.now.file.now) i)) self.now.numbers count
-            × RecordTable (before (decode file.now.file.now) i) self.now.records
+            × RecordTable (before (decode file.now.file.now) i) self.now.seen.records
             × ClassOf count class (answer_at (decode file.now.file.now) i)
             × IfLate (λ (at : ℕ). (late.offset ≡ byte_offset (size_of (decode file.now.file.now)) (firsts (before (decode file.now.file.now) i))
             (arrival_at (decode file.now.file.now) i).number)

@@ -8,7 +8,7 @@
 ghost use Rattle.std.specs.Prelude.{◌≡◌, ◌≤◌, length, replicate};
 ghost use Rattle.rfc4737.specs.Judge.{sent_most};
 ghost use Rattle.metrics.specs.Records.{number_places};
-ghost use Rattle.metrics.specs.Private.Tables.{Filled, NextRecord, NotedRecord};
+ghost use Rattle.metrics.specs.Private.Tables.{Filled, NextRecord, NotedRecord, NextSeen, NotedSeen};
 
 use rfc4737::judge::SENT_MOST;
 
@@ -31,12 +31,19 @@ impl State {
     pub(crate) const START: State = State { count: 0, next: 1 };
 }
 
+// The tables by packet number of the arrivals noted. They suffice for the classes, and a pass that takes nothing else keeps no others:
+// a table that is only written takes its memory all the same.
+#[derive(Drop)]
+pub(crate) struct Seen {
+    pub records: [u16; PACKET_TABLE_LEN],
+    pub skipped: [u16; PACKET_TABLE_LEN],
+}
+
 // The tables of the arrivals noted.
 #[derive(Drop)]
 pub(crate) struct Tables {
     pub numbers: [u16; MAX_FIRST_ARRIVALS],
-    pub records: [u16; PACKET_TABLE_LEN],
-    pub skipped: [u16; PACKET_TABLE_LEN],
+    pub seen: Seen,
 }
 
 // Notes that the jump at `position` skipped the packets from `from` to before `to`.
@@ -49,13 +56,12 @@ fn note_skipped(skipped: &mut [u16; PACKET_TABLE_LEN], from: u32, to: u32, posit
     }
 }
 
-impl Tables {
+impl Seen {
     // The tables before any arrival.
-    pub(crate) fn new() -> Tables
-        ensures { result ≡ record { numbers = replicate sent_most 0; records = replicate number_places 0; skipped = replicate number_places 0 } }
+    pub(crate) fn new() -> Seen
+        ensures { result ≡ record { records = replicate number_places 0; skipped = replicate number_places 0 } }
     {
-        Tables {
-            numbers: [0; MAX_FIRST_ARRIVALS],
+        Seen {
             records: [0; PACKET_TABLE_LEN],
             skipped: [0; PACKET_TABLE_LEN],
         }
@@ -64,17 +70,14 @@ impl Tables {
     // Notes record i + 1, an arrival of packet `number`; if it is reordered, `largest` is its largest n. All calls of a pass together:
     // O(A + K).
     pub(crate) fn note(&mut self, i: u32, number: u32, largest: u16, state: State) -> State
-        requires { NextRecord self.old.numbers self.old.records self.old.skipped state i number }
-        ensures { NotedRecord i number largest self.old.numbers self.old.records self.old.skipped state
-            self.new.numbers self.new.records self.new.skipped result }
+        requires { NextSeen self.old.records self.old.skipped state i number }
+        ensures { NotedSeen i number largest self.old.records self.old.skipped state self.new.records self.new.skipped result }
     {
         let packet = number as usize;
         if self.records[packet] != 0 {
             return state;
         }
         self.records[packet] = (i + 1) as u16;
-        let place = state.count as usize;
-        self.numbers[place] = number as u16;
         let count = state.count + 1;
         if number < state.next {
             self.skipped[packet] = largest;
@@ -85,5 +88,30 @@ impl Tables {
             count,
             next: number + 1,
         }
+    }
+}
+
+impl Tables {
+    // The tables before any arrival.
+    pub(crate) fn new() -> Tables
+        ensures { result ≡ record {
+          numbers = replicate sent_most 0;
+          seen = record { records = replicate number_places 0; skipped = replicate number_places 0 };
+        } }
+    {
+        Tables {
+            numbers: [0; MAX_FIRST_ARRIVALS],
+            seen: Seen::new(),
+        }
+    }
+
+    // Notes record i + 1, as `Seen::note`. The number of a copy is put past those of the first arrivals, where the next one's comes.
+    pub(crate) fn note(&mut self, i: u32, number: u32, largest: u16, state: State) -> State
+        requires { NextRecord self.old.numbers self.old.seen.records self.old.seen.skipped state i number }
+        ensures { NotedRecord i number largest self.old.numbers self.old.seen.records self.old.seen.skipped state
+            self.new.numbers self.new.seen.records self.new.seen.skipped result }
+    {
+        self.numbers[state.count as usize] = number as u16;
+        self.seen.note(i, number, largest, state)
     }
 }

@@ -60,7 +60,7 @@ fn answer_at(file: &CheckedFile, i: u32, tables: &Tables, state: State) -> Answe
 {
     let arrival = file.arrival_at(i);
     let number = arrival.number;
-    let class = tables.class_of(state.next, number);
+    let class = tables.seen.class_of(state.next, number);
     let late = late_figures(file, &tables.numbers, state.count, number, class);
     tables.answer_by(file, i, arrival, state.count, class, late)
 }

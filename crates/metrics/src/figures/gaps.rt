@@ -13,12 +13,12 @@ ghost use Rattle.metrics.specs.Sample.{sample_arrivals, answers_of};
 ghost use Rattle.metrics.specs.Records.{before, answer_at, answers_to, number_places};
 ghost use Rattle.metrics.specs.Figures.{record_gap};
 ghost use Rattle.metrics.specs.Gaps.{gap_number, gap_numbers};
-ghost use Rattle.metrics.specs.Private.Tables.{RecordTable, ClassOf, IfLate, TablesAt};
+ghost use Rattle.metrics.specs.Private.Tables.{RecordTable, ClassOf, IfLate, SeenAt};
 ghost use Rattle.metrics.specs.Private.Steps.{found, known, DiscoverersAt, last_to, count_after, PositionAt};
 
 use crate::engine::input::CheckedFile;
 use crate::engine::kind::Class;
-use crate::engine::seen::{PACKET_TABLE_LEN, State, Tables};
+use crate::engine::seen::{PACKET_TABLE_LEN, Seen, State};
 
 // If the next arrival, after `count` first arrivals, is the first with its discontinuity, notes its position there.
 fn note_discoverer(discoverers: &mut [u16; PACKET_TABLE_LEN], count: u32, class: Class)
@@ -51,21 +51,21 @@ fn note_to(
     file: &CheckedFile,
     from: u32,
     to: u32,
-    tables: &mut Tables,
+    seen: &mut Seen,
     discoverers: &mut [u16; PACKET_TABLE_LEN],
     start: State,
 ) -> State
-    requires { (from ≤ to) × (to ≤ file.now.layout.arrivals) × TablesAt (before (decode file.now.file.now) from) tables.old start
+    requires { (from ≤ to) × (to ≤ file.now.layout.arrivals) × SeenAt (before (decode file.now.file.now) from) seen.old start
         × DiscoverersAt (answers_to (decode file.now.file.now) from) discoverers.old }
-    ensures { TablesAt (before (decode file.now.file.now) to) tables.new result
+    ensures { SeenAt (before (decode file.now.file.now) to) seen.new result
         × DiscoverersAt (answers_to (decode file.now.file.now) to) discoverers.new }
 {
     let mut state = start;
     for i in from..to {
         let number = file.number_of(i);
-        let class = tables.class_of(state.next, number);
+        let class = seen.class_of(state.next, number);
         note_discoverer(discoverers, state.count, class);
-        state = tables.note(i, number, 0, state);
+        state = seen.note(i, number, 0, state);
     }
     state
 }
@@ -81,18 +81,11 @@ fn note_discoverers(
     ensures { (found result ≡ position_of (answer_at (decode file.now.file.now) (asked - 1)))
         × DiscoverersAt (answers_of (decode file.now.file.now)) discoverers.new }
 {
-    let mut tables = Tables::new();
+    let mut seen = Seen::new();
     let i = asked - 1;
-    let state = note_to(file, 0, i, &mut tables, discoverers, State::START);
-    let class = tables.class_of(state.next, file.number_of(i));
-    note_to(
-        file,
-        i,
-        file.layout.arrivals,
-        &mut tables,
-        discoverers,
-        state,
-    );
+    let state = note_to(file, 0, i, &mut seen, discoverers, State::START);
+    let class = seen.class_of(state.next, file.number_of(i));
+    note_to(file, i, file.layout.arrivals, &mut seen, discoverers, state);
     position_of(state.count, class)
 }
 
@@ -249,15 +242,15 @@ pub(crate) fn put_gaps(file: &CheckedFile, gaps: &mut [u32])
     requires { file.now.layout.arrivals ≤ length gaps.old }
     ensures { gaps.new ≡ over (gap_numbers (answers_of (decode file.now.file.now))) gaps.old }
 {
-    let mut tables = Tables::new();
+    let mut seen = Seen::new();
     let mut discoverers = [0u16; PACKET_TABLE_LEN];
     note_to(
         file,
         0,
         file.layout.arrivals,
-        &mut tables,
+        &mut seen,
         &mut discoverers,
         State::START,
     );
-    list_gaps(file, &tables.records, &discoverers, gaps);
+    list_gaps(file, &seen.records, &discoverers, gaps);
 }

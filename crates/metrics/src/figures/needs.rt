@@ -167,7 +167,7 @@ pub(crate) fn needs_of(
     for i in 0..file.layout.arrivals {
         let arrival = file.arrival_at(i);
         let number = arrival.number;
-        let class = tables.class_of(state.next, number);
+        let class = tables.seen.class_of(state.next, number);
         let need = need_of(
             file,
             measure,

@@ -1,6 +1,6 @@
 -- The class of record i + 1 is its answer's (`told`). Assumes nothing.
 use Rattle.metrics.proofs.AnswersByClass.{told}
-use Rattle.metrics.proofs.NotingArrivals.{noted-follows, noting}
+use Rattle.metrics.proofs.NotingArrivals.{noting-seen, seen-follows}
 use Rattle.metrics.proofs.OneArrivalMore.{answers_next, inside-told}
 use Rattle.metrics.proofs.TablesFollow.{here, numbered-le}
 use Rattle.sample.specs.Decode.{decode}
@@ -18,21 +18,21 @@ pub note_discoverer-requires : goal.note_discoverer-requires
 note_discoverer-requires c =
     let l = c.loop-i.invariant in
     let n = c.number_of-number.ensures in
-    let few = numbered-le _ _ _ (here c.args.file.now.laid c.loop-i.i (omega arith)) _ _ l.0.numbered in (
+    let few = numbered-le _ _ _ (here c.args.file.now.laid c.loop-i.i (omega arith)) _ _ l.0.follows.numbered in (
       l.1.places,
       omega (arith, few),
-      inside-told _ _ _ (here c.args.file.now.laid c.loop-i.i (omega arith)) _ _ _ _ l.0 _ (told (decode c.args.file.now.file.now) c.loop-i.i _ _ _ _ l.0 _ n.0 n.1 n.2 _ c.class_of-class.ensures),
+      inside-told _ _ _ (here c.args.file.now.laid c.loop-i.i (omega arith)) _ _ _ _ l.0.follows _ (told (decode c.args.file.now.file.now) c.loop-i.i _ _ _ _ l.0.follows _ n.0 n.1 n.2 _ c.class_of-class.ensures),
     )
 
 pub note-state-requires : goal.note-state-requires
-note-state-requires c = noting _ _ _ (here c.args.file.now.laid c.loop-i.i (omega arith)) _ _ _ _ c.loop-i.invariant.0 _ c.number_of-number.ensures.0
+note-state-requires c = noting-seen _ _ _ (here c.args.file.now.laid c.loop-i.i (omega arith)) _ _ c.loop-i.invariant.0 _ c.number_of-number.ensures.0
 
 pub loop-i-preserved : goal.loop-i-preserved
 loop-i-preserved c =
     let l = c.loop-i.invariant in
     let n = c.number_of-number.ensures in
-    let k = told (decode c.args.file.now.file.now) c.loop-i.i _ _ _ _ l.0 _ n.0 n.1 n.2 _ c.class_of-class.ensures in (
-      noted-follows _ _ _ (here c.args.file.now.laid c.loop-i.i (omega arith)) _ _ _ _ l.0 _ n.0 _ _ _ _ _ c.note-state.ensures,
+    let k = told (decode c.args.file.now.file.now) c.loop-i.i _ _ _ _ l.0.follows _ n.0 n.1 n.2 _ c.class_of-class.ensures in (
+      seen-follows _ _ _ (here c.args.file.now.laid c.loop-i.i (omega arith)) _ _ l.0 _ n.0 _ _ _ c.note-state.ensures,
       rw (answers_next _ _ _ (here c.args.file.now.laid c.loop-i.i (omega arith))) (c.note_discoverer.ensures _ _ k l.1),
     )
 

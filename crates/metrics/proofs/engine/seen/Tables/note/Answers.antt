@@ -1,29 +1,13 @@
--- A packet with a record is a copy, and all stays (`noted-copy`); below NextExp it is reordered, and its largest n replaces its
--- discontinuity (`noted-reordered`); else it is in order, and the entries of the packets that it skips are filled (`noted-in-order`).
--- The tables have room for it (`noting-few`). Assumes nothing.
-use Rattle.metrics.proofs.NotingArrivals.{noted-copy, noted-in-order, noted-reordered, noting-few}
+-- Assumes nothing.
+use Rattle.metrics.proofs.NotingArrivals.{noting-few}
 use native.Mathlib.Omega.{arith}
 use Rattle.metrics.proofs.engine.seen.Tables.note.Goals as goal
 
-pub returns-then-self-packet-ne0 : goal.returns-then-self-packet-ne0
-returns-then-self-packet-ne0 c =
-    let p = c.requires in noted-copy _ _ _ _ _ _ p.few _ p.low p.high c.if-self-packet-ne0.true
+pub bounds-self-state : goal.bounds-self-state
+bounds-self-state c = noting-few _ _ _ _ _ _ c.requires
 
-pub bounds-self-place : goal.bounds-self-place
-bounds-self-place c = noting-few _ _ _ _ _ _ c.requires
-
-pub overflow_add-count : goal.overflow_add-count
-overflow_add-count c = omega (arith, noting-few _ _ _ _ _ _ c.requires)
-
-pub overflow_cast-count : goal.overflow_cast-count
-overflow_cast-count c = omega (arith, noting-few _ _ _ _ _ _ c.requires)
-
-pub returns-then-number-state : goal.returns-then-number-state
-returns-then-number-state c =
-    let p = c.requires in
-    noted-reordered _ _ _ _ _ _ p.few _ p.low p.high c.if-self-packet-ne0.false c.if-number-state.true
+pub note-requires : goal.note-requires
+note-requires c = record { numbers = _; next = c.requires }
 
 pub returns : goal.returns
-returns c =
-    let p = c.requires in
-    noted-in-order _ _ _ _ _ _ p.few _ p.low p.high c.if-self-packet-ne0.false c.if-number-state.false _ c.note_skipped.ensures
+returns c = c.note.ensures _

@@ -1,7 +1,7 @@
 -- The three cases of `class_by`. Assumes nothing.
 use Rattle.metrics.specs.Private.Tables.{class_by}
 use borrow.Author.Tests.{eq-eqb, le-leb, lt-leb, ne_eqb}
-use Rattle.metrics.proofs.engine.seen.Tables.class_of.Goals as goal
+use Rattle.metrics.proofs.engine.seen.Seen.class_of.Goals as goal
 
 pub returns-then-first-ne0 : goal.returns-then-first-ne0
 unfolding class_by
