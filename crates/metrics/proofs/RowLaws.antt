@@ -1,5 +1,5 @@
--- Rows in a lent list. Numbers that are set one after the other are spliced in (`set_next`, `row-set`), and eight of them are a row
--- (`eight`). There are eight for each record (`rows-length`), and one record more puts its row after those before (`rows_more`,
+-- Rows in a lent list. Numbers that are set one after the other are spliced in (`set_next`, `row-next`, `row-set`), and eight of them are
+-- a row (`eight`). There are eight for each record (`rows-length`), and one record more puts its row after those before (`rows_more`,
 -- `rows_next`), up to the last that is wanted (`rows-wanted`); from the first on these are all (`rows-filled`). A row tells its answer: two
 -- rows that are the same have the same numbers, the first of which is that of the case (`rows_tell`). Here d is the decoded file, y its
 -- layout, from the records before the first row, i those before the next one, old and new the list before and now. Assumes nothing.
@@ -10,7 +10,7 @@ use Prim.Native.Nat.{ℕ, zero, suc, ◌+◌, ◌-◌, ◌*◌, ◌/◌, ◌≤�
 use native.Mathlib.Omega.{arith}
 use lib.Dec.{ltb}
 use lib.ListN.{length, get_or, set, take, drop, length-append, length-take, length-drop, drop_of_length-le}
-use lib.Seq.{take-append_seam, drop-append-add, drop-cons}
+use lib.Seq.{take-append_seam, length-take-le, drop-append-add, drop-cons}
 use borrow.Author.Tests.{ltb-true, ltb-false}
 use Rattle.octets.specs.Memory.{part, over, splice}
 use Rattle.octets.proofs.Memory.{part-snoc, part-rest, splice-set, splice-next, splice-length, over-next, over-length}
@@ -18,6 +18,7 @@ use Rattle.rfc4737.specs.declared.Answer.{Answer}
 use Rattle.rfc4737.specs.declared.LateTime.{LateTime}
 use Rattle.rfc4737.specs.Answer.{answers}
 use Rattle.rfc4737.specs.Numbering.{reordered_number, amount_of}
+use Rattle.rfc4737.proofs.Arrivals.{take_more}
 use Rattle.rfc4737.proofs.Folds.{length-answers}
 use Rattle.sample.specs.declared.Layout.{Layout}
 use Rattle.sample.specs.Decode.{Decoded, refused, accepted, sample_of, layout_of}
@@ -38,6 +39,12 @@ set_next : (at n : ℕ) (xs old : List ℕ) (x : ℕ) → length xs ≡ n → at
 set_next at n xs old x e h =
     splice-set (at + n) x (splice at xs old) (omega (arith, e, splice-length at xs old (omega (arith, e))))
     ∙ splice-next at (at + n) xs (x ∷ []) old (rw e) (omega arith)
+
+-- one more number of a row
+pub row-next : (at k : ℕ) (row old : List ℕ) → k < length row → at + k < length old
+    → set (splice at (take k row) old) (at + k) (get_or row k 0) ≡ splice at (take (k + 1) row) old
+row-next at k row old inside room =
+    rw (take_more 0 row k inside) (set_next at k (take k row) old (get_or row k 0) (length-take-le k row (omega arith)) room)
 
 -- the numbers of a row
 pub row-set : (at a b c d e f g h : ℕ) (old : List ℕ) → at + 8 ≤ length old

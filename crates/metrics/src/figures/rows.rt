@@ -26,7 +26,11 @@ fn put_answer(rows: &mut [u64], from: u32, i: u32, answer: Answer)
         return;
     }
     let at = 8 * ((i - from) as usize);
-    rows[at..at + 8].copy_from_slice(&row_of(answer));
+    let row = row_of(answer);
+    // One by one, so that the row stays in registers: `copy_from_slice` tests whether the two lists overlap, and takes twice the steps.
+    for k in 0..8 {
+        rows[at + k] = row[k];
+    }
 }
 
 // Returns after how many records a pass may end that is to meet the next `most` records after the first `from`. Past the last record

@@ -1,13 +1,10 @@
--- A row has eight numbers (`row-length`). Assumes nothing.
-use Prim.Native.Nat.{ℕ, ◌*◌, ◌+◌, ◌-◌}
-use Rattle.metrics.proofs.RowLaws.{row-length}
+-- Numbers that are put one after the other are spliced in (`row-next`), and a row has eight (`row-length`). Assumes nothing.
+use Rattle.metrics.proofs.RowLaws.{row-length, row-next}
 use Rattle.metrics.specs.Private.Rows.{with_row}
-use Rattle.metrics.specs.Rows.{row_of}
-use Rattle.std.proofs.lemmas.List.{drop-drop}
 use borrow.Author.Tests.{le-ltb, lt-ltb}
-use lib.ListN.{take}
-use mathlib.Core.List.{List, ◌++◌}
-use mathlib.Core.Path.{ap, ◌≡◌}
+use lib.ListN.{length}
+use lib.Seq.{take_all}
+use mathlib.Core.Path.{ap, ◌≡◌, ◌∙◌}
 use native.Mathlib.Omega.{arith}
 use Rattle.metrics.proofs.figures.rows.put_answer.Goals as goal
 
@@ -15,11 +12,16 @@ pub returns-then-i-from : goal.returns-then-i-from
 unfolding with_row
 returns-then-i-from c = rw (lt-ltb c.args.i c.args.from c.if-i-from.true)
 
+pub loop-k-preserved : goal.loop-k-preserved
+loop-k-preserved c =
+    let l = c.loop-k in
+    let long : length (c.row_of-row.result) ≡ 8 = ap length c.row_of-row.ensures ∙ row-length c.args.answer in
+    rw l.invariant (row-next _ l.k _ c.args.rows.now (omega (arith, long)) (omega (arith, c.requires c.if-i-from.false)))
+
 pub returns : goal.returns
 unfolding with_row
 returns c =
-    let a = c.args in
-    let at : ℕ = 8 * (a.i - a.from) in
-    let n : at + 8 - at ≡ 8 = omega arith in
-    rw (le-ltb a.i a.from c.if-i-from.false, n, c.copy_from_slice.ensures.after, c.row_of.ensures, row-length a.answer)
-    (ap (λ (r : List ℕ). take at a.rows.now ++ (row_of a.answer ++ r)) (drop-drop 8 at a.rows.now))
+    let l = c.loop-k in
+    let long : length (c.row_of-row.result) ≡ 8 = ap length c.row_of-row.ensures ∙ row-length c.args.answer in
+    let e : l.k ≡ 8 = omega arith in
+    rw (le-ltb c.args.i c.args.from c.if-i-from.false) (l.invariant ∙ rw (e, take_all 8 c.row_of-row.result (omega (arith, long)), c.row_of-row.ensures))

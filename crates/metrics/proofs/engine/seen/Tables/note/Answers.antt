@@ -1,6 +1,5 @@
 -- Assumes nothing.
 use Rattle.metrics.proofs.NotingArrivals.{noting-few}
-use native.Mathlib.Omega.{arith}
 use Rattle.metrics.proofs.engine.seen.Tables.note.Goals as goal
 
 pub bounds-self-state : goal.bounds-self-state
