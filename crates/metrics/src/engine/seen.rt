@@ -105,13 +105,15 @@ impl Tables {
         }
     }
 
-    // Notes record i + 1, as `Seen::note`. The number of a copy is put past those of the first arrivals, where the next one's comes.
+    // Notes record i + 1, as `Seen::note`. The number of a copy is put past those of the first arrivals, where the next one's comes. The
+    // numbers come last: a write between the class and the noting would have the packet's record read twice.
     pub(crate) fn note(&mut self, i: u32, number: u32, largest: u16, state: State) -> State
         requires { NextRecord self.old.numbers self.old.seen.records self.old.seen.skipped state i number }
         ensures { NotedRecord i number largest self.old.numbers self.old.seen.records self.old.seen.skipped state
             self.new.numbers self.new.seen.records self.new.seen.skipped result }
     {
+        let after = self.seen.note(i, number, largest, state);
         self.numbers[state.count as usize] = number as u16;
-        self.seen.note(i, number, largest, state)
+        after
     }
 }
