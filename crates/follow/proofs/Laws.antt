@@ -51,7 +51,7 @@ words-refused n old new answer e w =
     w.octets ∙ ap (λ (refusal : ℕ). if_none refusal (length (words_of n)) 0) h
 
 pub words-read : (n : ℕ) {old new : List ℕ} {answer : WriteAnswer} → Output (asked_refusal n) (words_of n) old answer new → WordsFit
-    → length old ≡ 128
+    → length old ≡ 129
     → (answer.length ≤ 128) × ((answer.length ≤ length new) × (take answer.length new ≡ words_of n))
 unfolding asked_refusal
 words-read n {old} {new} {answer} w fit room = go (outside 1 18 n) refl
