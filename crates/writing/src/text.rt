@@ -81,7 +81,9 @@ impl<const N: usize> Text<N> {
         }
     }
 
-    // Writes a number between two words, if there is room for both and 20 digits.
+    // Writes a number between two words, if there is room for both and 20 digits. Inlined, LLVM stores the words of a call several octets at
+    // a time; else it copies octet by octet, and a line of `follow` costs a half more.
+    #[inline(always)]
     pub fn between(&mut self, before: &[u8], v: u64, after: &[u8])
         ensures written { length self.old + (length before.now + (20 + length after.now)) ≤ N → self.new ≡ self.old ++ between before.now v after.now }
         ensures full { N < length self.old + (length before.now + (20 + length after.now)) → self.new ≡ self.old }
