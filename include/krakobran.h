@@ -21,8 +21,7 @@
  * - No function allocates, keeps a pointer, or has a state of its own. So all may be called from many threads, each with
  *   memory of its own to write to.
  * - KRAKOBRAN_TEXT_STACK_OCTETS octets of stack suffice for krakobran_table_csv, krakobran_table_json and
- *   krakobran_summary_all. On processors other than x86-64 krakobran_summary_json and krakobran_summary_write need them
- *   too. KRAKOBRAN_STACK_OCTETS suffice for any other call.
+ *   krakobran_summary_all, and KRAKOBRAN_STACK_OCTETS for any other call.
  * - Every call sets every figure. In a list or text it writes what it says and leaves the places after that as they were.
  * - Every struct has the same layout on every machine, and none is padded. So each may be compared, saved and loaded as memory,
  *   and the same calls give the same memory. Its numbers are in the machine's order of octets.
@@ -135,10 +134,9 @@ enum {
     KRAKOBRAN_TABLE_PART_OCTETS = 131072,  /* octets that suffice for any part of it */
     KRAKOBRAN_FOLLOW_OCTETS = 256,         /* octets that suffice for what is said of any line, and for any counts */
     KRAKOBRAN_WORDS_OCTETS = 128,          /* octets that suffice for the words of any refusal */
-    KRAKOBRAN_STACK_OCTETS = 40960,        /* octets of stack that suffice for any call but those of the next line */
+    KRAKOBRAN_STACK_OCTETS = 40960,        /* octets of stack that suffice for any call but three */
     KRAKOBRAN_TEXT_STACK_OCTETS = 65536    /* octets of stack that suffice for krakobran_table_csv, krakobran_table_json and
-                                              krakobran_summary_all; on processors other than x86-64 for
-                                              krakobran_summary_json and krakobran_summary_write too */
+                                              krakobran_summary_all */
 };
 
 /* ---- the sample file

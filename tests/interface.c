@@ -1506,7 +1506,8 @@ static void no_places(void) {
 /* ---- the longest sample: its packets in pairs that are exchanged, with a copy in each fourth place */
 
 enum { MOST = KRAKOBRAN_ARRIVALS_MOST };
-static uint16_t sizes[MOST], shorts[MOST], table[KRAKOBRAN_SWEEP_TABLE_PLACES], lengths[MOST], offsets[MOST], falling[MOST];
+static uint16_t sizes[MOST], shorts[MOST], table[KRAKOBRAN_SWEEP_TABLE_PLACES], lengths[MOST], offsets[MOST], falling[MOST],
+    mixed[MOST];
 static uint32_t ones[MOST], numbers[MOST], positions[MOST], extents[MOST];
 static uint64_t times[MOST], lates[MOST];
 static uint8_t mores[MOST], kinds[MOST], used[MOST];
@@ -1524,6 +1525,7 @@ static void make_longest(void) {
         lengths[i] = 8;
         ones[i] = 1;
         falling[i] = (uint16_t)(MOST - i);
+        mixed[i] = (uint16_t)(i * 2731 % MOST);
     }
     uint64_t refusal = krakobran_sample_write(label, KRAKOBRAN_LABEL_MOST, sizes, KRAKOBRAN_SENT_MOST, numbers, MOST, times,
                                               MOST, file, sizeof file, &octets);
@@ -1663,6 +1665,8 @@ CALL(fragment_order, krakobran_fragment_order(MOST, numbers, MOST, times, MOST, 
                                               kinds, MOST, used, MOST))
 CALL(fragments_of_one,
      krakobran_fragment_order(1, ones, MOST, times, MOST, lengths, MOST, mores, MOST, falling, MOST, kinds, MOST, used, MOST))
+CALL(fragments_mixed,
+     krakobran_fragment_order(1, ones, MOST, times, MOST, lengths, MOST, mores, MOST, mixed, MOST, kinds, MOST, used, MOST))
 CALL(full_numbers_8, krakobran_full_numbers_8(MOST, shorts, MOST, times, MOST, positions, MOST))
 CALL(full_numbers_10, krakobran_full_numbers_10(MOST, shorts, 64, times, 64, positions, MOST))
 CALL(receiver_fresh, krakobran_receiver_fresh(&receiver, MOST))
@@ -1730,6 +1734,7 @@ static const struct {
              NAMED_TEXT(table_json),
              NAMED(fragment_order),
              NAMED(fragments_of_one),
+             NAMED(fragments_mixed),
              NAMED(full_numbers_8),
              NAMED(full_numbers_10),
              NAMED(receiver_fresh),
